@@ -1,0 +1,3 @@
+pub mod ReadingLaws
+mod Steps
+pub mod WritingLaws

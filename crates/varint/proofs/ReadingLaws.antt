@@ -1,0 +1,131 @@
+-- The laws of reading a number: its value is bounded by its groups, what is written reads back, and what reads is what is written.
+use mathlib.Core.Path.{_≡_, refl, sym, ap, ap₂, _∙_, subst}
+use Prim.Native.Nat.{ℕ, zero, suc, _+_, _*_, _/_, _%_, _^_, _≤_, _<_}
+use native.Mathlib.Omega.{arith}
+use mathlib.Core.Bool.{Bool, true, false, cond}
+use mathlib.Core.List.{List, [], _∷_, _++_}
+use lib.ListN.{length, drop, length-append}
+use lib.Seq.{drop-at, drop-drop}
+use lib.Dec.{leb, ltb, eqb}
+use borrow.Author.Tests.{lt-ltb, le-ltb, le-leb, ne-eqb, ltb-true, ltb-false, leb-true, eqb-false}
+use Rattle.varint.specs.declared.Number.{Number}
+use Rattle.varint.specs.declared.Number.the-variants.{Value, Cut, Overlong}
+use Rattle.varint.specs.Reading.{further, lastGroup, largest, joined, numberFrom, numberAt}
+use Rattle.varint.specs.Writing.{bytesOf, widthOf}
+use Rattle.varint.specs.Laws.{Bytes, ReadBack, OnlyForm}
+use Rattle.varint.proofs.WritingLaws.{by-test, bytes-last, bytes-step}
+
+-- the largest number that `more` groups behind the first hold
+unfoldable pub greatest : ℕ → ℕ
+greatest zero = lastGroup
+greatest (suc more) = 127 + 128 * greatest more
+
+-- an answer by a test: what holds of both holds of the one picked
+pub picked : (P : Number → Type 0) (t : Bool) {a b : Number} → (t ≡ true → P a) → (t ≡ false → P b) → P (cond t a b)
+picked P true f g = f refl
+picked P false f g = g refl
+
+-- ---- the value's bound
+
+unfoldable pub Within : ℕ → Number → Type 0
+Within most (Value value next) = value ≤ most
+Within most Cut = Unit {0}
+Within most Overlong = Unit {0}
+
+joined-within : (byte most : ℕ) (r : Number) → Within most r → Within (127 + 128 * most) (joined byte r)
+unfolding joined Within
+joined-within byte most (Value rest next) h = picked (Within (127 + 128 * most)) (eqb rest 0) (λ e. tt) (λ e. omega arith)
+joined-within byte most Cut h = tt
+joined-within byte most Overlong h = tt
+
+pub number-within : (more : ℕ) (l : List ℕ) (at : ℕ) → Within (greatest more) (numberFrom more l at)
+unfolding Within greatest numberFrom
+number-within zero [] at = tt
+number-within (suc more) [] at = tt
+number-within zero (byte ∷ l) at = picked (Within lastGroup) (leb byte lastGroup) (λ e. leb-true byte lastGroup e) (λ e. tt)
+number-within (suc more) (byte ∷ l) at =
+    picked (Within (greatest (suc more))) (ltb byte 128)
+    (λ e. omega (arith, ltb-true byte 128 e))
+    (λ e. joined-within byte (greatest more) (numberFrom more l (at + 1)) (number-within more l (at + 1)))
+
+-- ---- what is written reads back
+
+back-step : (more value : ℕ) (rest : List ℕ) (at : ℕ) → 128 ≤ value → value < 2 ^ 64
+    → numberFrom more (bytesOf (value / 128) ++ rest) (at + 1) ≡ Value (value / 128) (at + 1 + widthOf (value / 128))
+    → numberFrom (suc more) (bytesOf value ++ rest) at ≡ Value value (at + widthOf value)
+unfolding numberFrom joined
+back-step more value rest at large fits e =
+    rw (bytes-step value)
+    (rw (le-ltb (value % 128 + 128) 128 (omega arith), e, ne-eqb (value / 128) 0 (omega arith))
+    (ap₂ Value (omega arith) (omega arith)))
+
+back : (more value : ℕ) (rest : List ℕ) (at : ℕ) → value ≤ greatest more → value < 2 ^ 64
+    → numberFrom more (bytesOf value ++ rest) at ≡ Value value (at + widthOf value)
+unfolding greatest numberFrom
+back zero value rest at h fits = rw (bytes-last value (omega arith)) (rw (le-leb value lastGroup))
+back (suc more) value rest at h fits =
+    by-test (ltb value 128)
+    (λ e. rw (bytes-last value (ltb-true value 128 e)) (rw e))
+    (λ e. back-step more value rest at (ltb-false value 128 e) fits
+    (back more (value / 128) rest (at + 1) (omega (arith, ltb-false value 128 e)) (omega arith)))
+
+pub read-back : ReadBack
+unfolding numberAt greatest
+read-back s rest at value h e =
+    ap (λ (l : List ℕ). numberFrom further l at) e ∙ back further value rest at h (omega arith)
+
+-- ---- what reads is what is written
+
+-- l, which stands at the place at, begins with the shortest form of the number read, and reading ends behind it
+unfoldable pub Shortest : List ℕ → ℕ → Number → Type 0
+Shortest l at (Value value next) = (rest : List ℕ) × (next ≡ at + widthOf value) × (l ≡ bytesOf value ++ rest)
+Shortest l at Cut = Unit {0}
+Shortest l at Overlong = Unit {0}
+
+shortest-one : (byte : ℕ) (l : List ℕ) (at : ℕ) → byte < 128 → Shortest (byte ∷ l) at (Value byte (at + 1))
+unfolding Shortest
+shortest-one byte l at h = rw (bytes-last byte h) (l, omega arith, refl)
+
+shortest-more : (most byte : ℕ) (l : List ℕ) (at : ℕ) (r : Number) → 128 + 128 * most ≤ 2 ^ 64 → 128 ≤ byte → byte < 256 → Within most r
+    → Shortest l (at + 1) r → Shortest (byte ∷ l) at (joined byte r)
+unfolding Shortest joined Within
+shortest-more most byte l at (Value value next) fits top small within s =
+    picked (Shortest (byte ∷ l) at) (eqb value 0)
+    (λ e. tt)
+    (λ e.
+    let some : 128 ≤ byte % 128 + 128 * value = omega (arith, eqb-false value 0 e) in
+    let step : bytesOf (byte % 128 + 128 * value) ≡ byte ∷ bytesOf value = bytes-step (byte % 128 + 128 * value) some (omega arith)
+    ∙ ap₂ (λ (b v : ℕ). b ∷ bytesOf v) (omega arith) (omega arith) in
+    rw step (s .0, omega (arith, s .1), ap (λ (k : List ℕ). byte ∷ k) (s .2)))
+shortest-more most byte l at Cut fits top small within s = tt
+shortest-more most byte l at Overlong fits top small within s = tt
+
+shortest : (more : ℕ) (l : List ℕ) (at : ℕ) → greatest more < 2 ^ 64 → Bytes l → Shortest l at (numberFrom more l at)
+unfolding Shortest numberFrom greatest
+shortest zero [] at h bytes = tt
+shortest (suc more) [] at h bytes = tt
+shortest zero (byte ∷ l) at h bytes =
+    picked (Shortest (byte ∷ l) at) (leb byte lastGroup)
+    (λ e. shortest-one byte l at (omega (arith, leb-true byte lastGroup e))) (λ e. tt)
+shortest (suc more) (byte ∷ l) at h bytes =
+    picked (Shortest (byte ∷ l) at) (ltb byte 128)
+    (λ e. shortest-one byte l at (ltb-true byte 128 e))
+    (λ e. shortest-more (greatest more) byte l at (numberFrom more l (at + 1)) (omega arith) (ltb-false byte 128 e) (bytes .0)
+    (number-within more l (at + 1)) (shortest more l (at + 1) (omega arith) (bytes .1)))
+
+pub bytes-drop : (n : ℕ) (l : List ℕ) → Bytes l → Bytes (drop n l)
+bytes-drop zero l h = h
+bytes-drop (suc n) [] h = h
+bytes-drop (suc n) (b ∷ l) h = bytes-drop n l (h .1)
+
+pub only-form : OnlyForm
+unfolding numberAt greatest Within Shortest
+only-form s at value next bytes e =
+    let within : value ≤ largest = subst (Within largest) e (number-within further (drop at s) at) in
+    let form : Shortest (drop at s) at (Value value next) = subst (Shortest (drop at s) at) e (shortest further (drop at s) at (omega arith) (bytes-drop at s bytes)) in
+    let behind : drop next s ≡ form .0 =
+    ap (λ (k : ℕ). drop k s) (form .1)
+    ∙ sym (drop-drop (widthOf value) at s)
+    ∙ ap (drop (widthOf value)) (form .2)
+    ∙ drop-at (bytesOf value) (form .0) (widthOf value) refl in
+    (within, form .1, form .2 ∙ ap (λ (l : List ℕ). bytesOf value ++ l) (sym behind))

@@ -1,0 +1,110 @@
+-- The laws of a number's shortest form: how it begins, by whether the number is below 128, and how long it is. From the definition alone.
+use mathlib.Core.Path.{_≡_, refl, sym, ap, _∙_}
+use Prim.Native.Nat.{ℕ, zero, suc, _+_, _*_, _/_, _%_, _^_, _≤_, _<_}
+use native.Mathlib.Omega.{arith}
+use mathlib.Core.Logic.{⊎-elim}
+use mathlib.Core.Bool.{Bool, true, false, cond}
+use mathlib.Core.List.{List, [], _∷_, _++_}
+use lib.ListN.{length}
+use lib.Dec.{ltb}
+use borrow.Author.Tests.{lt-ltb, le-ltb, le-leb, lt-leb, ltb-true, ltb-false}
+use Rattle.varint.specs.Reading.{largest}
+use Rattle.varint.specs.Writing.{groupsOf, bytesOf, widthOf, stored, writtenAt, leftAt}
+use Rattle.varint.specs.declared.Written.the-variants.{Next, Beyond, NoRoom}
+
+-- the first number that `more` groups behind the first do not hold
+unfoldable pub top : ℕ → ℕ
+top zero = 128
+top (suc more) = 128 * top more
+
+-- Bool by cases, with the equation
+pub by-test : {P : Type 0} (t : Bool) → (t ≡ true → P) → (t ≡ false → P) → P
+by-test true yes′ no′ = yes′ refl
+by-test false yes′ no′ = no′ refl
+
+groups-last : (more value : ℕ) → value < 128 → groupsOf more value ≡ value ∷ []
+unfolding groupsOf
+groups-last zero value h = refl
+groups-last (suc more) value h = rw (lt-ltb value 128)
+
+groups-step : (more value : ℕ) → 128 ≤ value → groupsOf (suc more) value ≡ (value % 128 + 128) ∷ groupsOf more (value / 128)
+unfolding groupsOf
+groups-step more value h = rw (le-ltb value 128)
+
+-- one more group allowed changes nothing where the groups hold the number
+groups-more : (more value : ℕ) → value < top more → groupsOf (suc more) value ≡ groupsOf more value
+unfolding top
+groups-more zero value h = groups-last 1 value h ∙ sym (groups-last 0 value h)
+groups-more (suc more) value h =
+    by-test (ltb value 128)
+    (λ e. let small : value < 128 = ltb-true value 128 e in groups-last (suc (suc more)) value small ∙ sym (groups-last (suc more) value small))
+    (λ e. let large : 128 ≤ value = ltb-false value 128 e in
+    groups-step (suc more) value large
+    ∙ ap (λ (l : List ℕ). (value % 128 + 128) ∷ l) (groups-more more (value / 128) (omega arith))
+    ∙ sym (groups-step more value large))
+
+-- ---- the shortest form, at every 64-bit number
+
+pub bytes-last : (value : ℕ) → value < 128 → bytesOf value ≡ value ∷ []
+unfolding bytesOf
+bytes-last value h = groups-last 9 value h
+
+pub bytes-step : (value : ℕ) → 128 ≤ value → value < 2 ^ 64 → bytesOf value ≡ (value % 128 + 128) ∷ bytesOf (value / 128)
+unfolding bytesOf top
+bytes-step value h fits =
+    groups-step 8 value h
+    ∙ ap (λ (l : List ℕ). (value % 128 + 128) ∷ l) (sym (groups-more 8 (value / 128) (omega arith)))
+
+-- ---- how long it is
+
+groups-least : (more value : ℕ) → 1 ≤ length (groupsOf more value)
+unfolding groupsOf
+groups-least zero value = omega arith
+groups-least (suc more) value =
+    by-test (ltb value 128)
+    (λ e. rw (groups-last (suc more) value (ltb-true value 128 e)) (omega arith))
+    (λ e. rw (groups-step more value (ltb-false value 128 e)) (omega arith))
+
+pub width-least : (value : ℕ) → 1 ≤ widthOf value
+unfolding bytesOf
+width-least value = groups-least 9 value
+
+-- a number that `more` groups behind the first hold takes at most one byte more than that
+groups-most : (k more value : ℕ) → value < top more → length (groupsOf k value) ≤ more + 1
+unfolding groupsOf top
+groups-most zero more value h = omega arith
+groups-most (suc k) zero value h = rw (groups-last (suc k) value h) (omega arith)
+groups-most (suc k) (suc more) value h =
+    by-test (ltb value 128)
+    (λ e. rw (groups-last (suc k) value (ltb-true value 128 e)) (omega arith))
+    (λ e. rw (groups-step k value (ltb-false value 128 e)) (omega (arith, groups-most k more (value / 128) (omega arith))))
+
+pub width-most : (value : ℕ) → value < 2 ^ 64 → widthOf value ≤ 10
+unfolding bytesOf top
+width-most value h = groups-most 9 9 value (omega arith)
+
+pub width-of-largest : (value : ℕ) → value ≤ largest → widthOf value ≤ 5
+unfolding bytesOf top
+width-of-largest value h = groups-most 9 4 value (omega arith)
+
+-- ---- what writing a number answers and leaves, by whether it is held and has room
+
+pub written-beyond : (s : List ℕ) (at value : ℕ) → largest < value → (Beyond ≡ writtenAt (length s) at value) × (s ≡ leftAt s at value)
+unfolding writtenAt leftAt
+written-beyond s at value h = (rw (lt-ltb largest value h), rw (lt-ltb largest value h))
+
+pub written-full : (s : List ℕ) (at value : ℕ) → value ≤ largest → length s < at + widthOf value
+    → (NoRoom ≡ writtenAt (length s) at value) × (s ≡ leftAt s at value)
+unfolding writtenAt leftAt
+written-full s at value held full = (
+  rw (le-ltb largest value held, lt-leb (at + widthOf value) (length s) full),
+  rw (le-ltb largest value held, lt-leb (at + widthOf value) (length s) full),
+)
+
+pub written-next : (s : List ℕ) (at value : ℕ) → value ≤ largest → at + widthOf value ≤ length s
+    → (Next (at + widthOf value) ≡ writtenAt (length s) at value) × (stored s at (bytesOf value) ≡ leftAt s at value)
+unfolding writtenAt leftAt
+written-next s at value held fits = (
+  rw (le-ltb largest value held, le-leb (at + widthOf value) (length s) fits),
+  rw (le-ltb largest value held, le-leb (at + widthOf value) (length s) fits),
+)

@@ -1,0 +1,21 @@
+-- The two laws of numbers, as claims over the definitions.
+use mathlib.Core.Path.{_≡_}
+use Prim.Native.Nat.{ℕ, _+_, _≤_, _<_}
+use mathlib.Core.List.{List, [], _∷_, _++_}
+use lib.ListN.{drop}
+use Rattle.varint.specs.declared.Number.the-variants.{Value}
+use Rattle.varint.specs.Reading.{numberAt, largest}
+use Rattle.varint.specs.Writing.{bytesOf, widthOf}
+
+-- each element is a byte
+abbrev pub Bytes : List ℕ → Type 0
+Bytes [] = Unit {0}
+Bytes (b ∷ l) = (b < 256) × Bytes l
+
+-- what is written reads back, at every place and with any bytes behind it
+abbrev pub ReadBack : Type 0
+ReadBack = (s rest : List ℕ) (at value : ℕ) → value ≤ largest → drop at s ≡ bytesOf value ++ rest → numberAt s at ≡ Value value (at + widthOf value)
+
+-- what reads is exactly what is written for its value
+abbrev pub OnlyForm : Type 0
+OnlyForm = (s : List ℕ) (at value next : ℕ) → Bytes s → numberAt s at ≡ Value value next → (value ≤ largest) × (next ≡ at + widthOf value) × (drop at s ≡ bytesOf value ++ drop next s)

@@ -8,12 +8,13 @@ use lib.ListN.{length, drop, length-append}
 use lib.Seq.{drop-at, drop-drop}
 use lib.Dec.{leb, ltb, eqb}
 use borrow.Author.Tests.{lt-ltb, le-ltb, le-leb, ne-eqb, ltb-true, ltb-false, leb-true, eqb-false}
+use borrow.Table.Steps.{cases}
 use Rattle.varint.specs.declared.Number.{Number}
 use Rattle.varint.specs.declared.Number.the-variants.{Value, Cut, Overlong}
 use Rattle.varint.specs.Reading.{further, lastGroup, largest, joined, numberFrom, numberAt}
 use Rattle.varint.specs.Writing.{bytesOf, widthOf}
 use Rattle.varint.specs.Laws.{Bytes, ReadBack, OnlyForm}
-use Rattle.varint.proofs.WritingLaws.{by-test, bytes-last, bytes-step}
+use Rattle.varint.proofs.WritingLaws.{bytes-last, bytes-step}
 
 -- the largest number that `more` groups behind the first hold
 unfoldable pub greatest : ℕ → ℕ
@@ -64,7 +65,7 @@ back : (more value : ℕ) (rest : List ℕ) (at : ℕ) → value ≤ greatest mo
 unfolding greatest numberFrom
 back zero value rest at h fits = rw (bytes-last value (omega arith)) (rw (le-leb value lastGroup))
 back (suc more) value rest at h fits =
-    by-test (ltb value 128)
+    cases (ltb value 128)
     (λ e. rw (bytes-last value (ltb-true value 128 e)) (rw e))
     (λ e. back-step more value rest at (ltb-false value 128 e) fits
     (back more (value / 128) rest (at + 1) (omega (arith, ltb-false value 128 e)) (omega arith)))

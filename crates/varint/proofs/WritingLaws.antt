@@ -8,6 +8,7 @@ use mathlib.Core.List.{List, [], _∷_, _++_}
 use lib.ListN.{length}
 use lib.Dec.{ltb}
 use borrow.Author.Tests.{lt-ltb, le-ltb, le-leb, lt-leb, ltb-true, ltb-false}
+use borrow.Table.Steps.{cases}
 use Rattle.varint.specs.Reading.{largest}
 use Rattle.varint.specs.Writing.{groupsOf, bytesOf, widthOf, stored, writtenAt, leftAt}
 use Rattle.varint.specs.declared.Written.the-variants.{Next, Beyond, NoRoom}
@@ -16,11 +17,6 @@ use Rattle.varint.specs.declared.Written.the-variants.{Next, Beyond, NoR
 unfoldable pub top : ℕ → ℕ
 top zero = 128
 top (suc more) = 128 * top more
-
--- Bool by cases, with the equation
-pub by-test : {P : Type 0} (t : Bool) → (t ≡ true → P) → (t ≡ false → P) → P
-by-test true yes′ no′ = yes′ refl
-by-test false yes′ no′ = no′ refl
 
 groups-last : (more value : ℕ) → value < 128 → groupsOf more value ≡ value ∷ []
 unfolding groupsOf
@@ -36,7 +32,7 @@ groups-more : (more value : ℕ) → value < top more → groupsOf (suc more) va
 unfolding top
 groups-more zero value h = groups-last 1 value h ∙ sym (groups-last 0 value h)
 groups-more (suc more) value h =
-    by-test (ltb value 128)
+    cases (ltb value 128)
     (λ e. let small : value < 128 = ltb-true value 128 e in groups-last (suc (suc more)) value small ∙ sym (groups-last (suc more) value small))
     (λ e. let large : 128 ≤ value = ltb-false value 128 e in
     groups-step (suc more) value large
@@ -61,7 +57,7 @@ groups-least : (more value : ℕ) → 1 ≤ length (groupsOf more value)
 unfolding groupsOf
 groups-least zero value = omega arith
 groups-least (suc more) value =
-    by-test (ltb value 128)
+    cases (ltb value 128)
     (λ e. rw (groups-last (suc more) value (ltb-true value 128 e)) (omega arith))
     (λ e. rw (groups-step more value (ltb-false value 128 e)) (omega arith))
 
@@ -75,7 +71,7 @@ unfolding groupsOf top
 groups-most zero more value h = omega arith
 groups-most (suc k) zero value h = rw (groups-last (suc k) value h) (omega arith)
 groups-most (suc k) (suc more) value h =
-    by-test (ltb value 128)
+    cases (ltb value 128)
     (λ e. rw (groups-last (suc k) value (ltb-true value 128 e)) (omega arith))
     (λ e. rw (groups-step k value (ltb-false value 128 e)) (omega (arith, groups-most k more (value / 128) (omega arith))))
 

@@ -1,0 +1,5 @@
+pub mod FaultLaws
+mod Lengths
+pub mod Lists
+pub mod MatchingLaws
+pub mod OffsetLaws

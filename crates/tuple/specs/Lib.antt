@@ -1,0 +1,6 @@
+pub mod Faults
+pub mod Fields
+pub mod Laws
+pub mod Matching
+pub mod Offsets
+pub mod Refusals

@@ -1,0 +1,120 @@
+// Fields, tuples and calls: plain numbers, so that anything can be handed in and get its refusal.
+ghost use mathlib.Core.Path.{_≡_};
+ghost use Rattle.tuple.specs.Fields.{largestOf, blankField, blankTuple, blankCall};
+
+// The kinds of a field; a set is 01's seats.
+pub const WORD: u8 = 1;
+
+pub const COUNT: u8 = 2;
+
+pub const OFFSET: u8 = 3;
+
+pub const SET: u8 = 4;
+
+// The states of a field: 01's given, any and open.
+pub const DEFINED: u8 = 0;
+
+pub const WILDCARD: u8 = 1;
+
+pub const FORMAL: u8 = 2;
+
+// The words that have a meaning.
+pub const PROPOSE: u64 = 1;
+
+pub const DECISION: u64 = 2;
+
+// The codes of the calls.
+pub const OUT: u8 = 1;
+
+pub const RDP: u8 = 2;
+
+pub const INP: u8 = 3;
+
+pub const CAS: u8 = 4;
+
+// The most fields of a tuple, and the most tuples of a space.
+pub const FIELDS: usize = 6;
+
+pub const TUPLES: usize = 128;
+
+// The largest value of each kind; an offset's is its largest code.
+pub const LARGEST_WORD: u64 = 255;
+
+pub const LARGEST_COUNT: u64 = 4_294_967_295;
+
+pub const LARGEST_CODE: u64 = 200_001;
+
+pub const LARGEST_SET: u64 = 32_767;
+
+// A field: its kind, its state and its value. An offset's value is its code.
+pub struct Field {
+    pub kind: u8,
+    pub state: u8,
+    pub value: u64,
+}
+
+// A tuple: how many fields it has, and six places for them.
+pub struct Tuple {
+    pub count: usize,
+    pub fields: [Field; 6],
+}
+
+// A call: the process that calls, the call's code, and its template and entry.
+pub struct Call {
+    pub process: u32,
+    pub code: u8,
+    pub template: Tuple,
+    pub entry: Tuple,
+}
+
+impl Field {
+    // The field of a place that is not used.
+    pub fn blank() -> Self
+        ensures { λ r. ⌜ r ≡ blankField ⌝ }
+    {
+        Field {
+            kind: 0,
+            state: 0,
+            value: 0,
+        }
+    }
+}
+
+impl Tuple {
+    // The tuple of a place that is not used.
+    pub fn blank() -> Self
+        ensures { λ r. ⌜ r ≡ blankTuple ⌝ }
+    {
+        Tuple {
+            count: 0,
+            fields: [Field::blank(); 6],
+        }
+    }
+}
+
+impl Call {
+    // The call that stands beside a refusal.
+    pub fn blank() -> Self
+        ensures { λ r. ⌜ r ≡ blankCall ⌝ }
+    {
+        Call {
+            process: 0,
+            code: 0,
+            template: Tuple::blank(),
+            entry: Tuple::blank(),
+        }
+    }
+}
+
+// The largest value of a kind; 0 for what is no kind.
+pub fn largest(kind: u8) -> u64
+    ensures { λ r. ⌜ r ≡ largestOf kind ⌝ }
+{
+    match kind {
+        WORD => LARGEST_WORD,
+        COUNT => LARGEST_COUNT,
+        OFFSET => LARGEST_CODE,
+        SET => LARGEST_SET,
+        _ => 0,
+    }
+}

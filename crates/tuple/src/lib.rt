@@ -1,0 +1,38 @@
+// Fields, tuples and calls as values: what they may hold, how offsets are coded, what is wrong with a call, and matching.
+mod fault;
+mod field;
+mod matching;
+mod offset;
+mod refusal;
+
+pub use fault::Fault;
+pub use field::CAS;
+pub use field::COUNT;
+pub use field::Call;
+pub use field::DECISION;
+pub use field::DEFINED;
+pub use field::FIELDS;
+pub use field::FORMAL;
+pub use field::Field;
+pub use field::INP;
+pub use field::LARGEST_CODE;
+pub use field::LARGEST_COUNT;
+pub use field::LARGEST_SET;
+pub use field::LARGEST_WORD;
+pub use field::OFFSET;
+pub use field::OUT;
+pub use field::PROPOSE;
+pub use field::RDP;
+pub use field::SET;
+pub use field::TUPLES;
+pub use field::Tuple;
+pub use field::WILDCARD;
+pub use field::WORD;
+pub use field::largest;
+pub use matching::Found;
+pub use matching::oldest;
+pub use offset::Coded;
+pub use offset::Decoded;
+pub use offset::LARGEST_OFFSET;
+pub use offset::Offset;
+pub use refusal::Refusal;

@@ -1,0 +1,64 @@
+// Matching an entry against a template, and the oldest tuple of a space that matches.
+ghost use mathlib.Core.Path.{_≡_};
+ghost use Prim.Native.Nat.{min};
+ghost use lib.ListN.{take};
+ghost use Rattle.tuple.specs.Matching.{fieldMatches, oldestOf};
+use crate::field::DEFINED;
+use crate::field::FIELDS;
+use crate::field::Field;
+use crate::field::TUPLES;
+use crate::field::Tuple;
+
+// Where a matching tuple stands.
+pub enum Found {
+    At(usize),
+    Nowhere,
+}
+
+// The oldest of the first `count` tuples that matches the template.
+pub fn oldest(tuples: [Tuple; 128], count: usize, template: Tuple) -> Found
+    ensures { λ r. ⌜ r ≡ oldestOf (take count tuples) template ⌝ }
+{
+    let held = least(count, TUPLES);
+    let wanted = template.count;
+    let places = least(wanted, FIELDS);
+    let mut i = 0;
+    'tuples: while i < held {
+        let tuple = tuples[i];
+        let at = i;
+        i += 1;
+        if tuple.count != wanted {
+            continue 'tuples;
+        }
+        let mut j = 0;
+        while j < places {
+            let asked = template.fields[j];
+            let given = tuple.fields[j];
+            if !field_matches(asked, given) {
+                continue 'tuples;
+            }
+            j += 1;
+        }
+        return Found::At(at);
+    }
+    Found::Nowhere
+}
+
+fn least(a: usize, b: usize) -> usize
+    ensures { λ r. ⌜ r ≡ min a b ⌝ }
+{
+    if a < b { a } else { b }
+}
+
+// Whether a field of an entry matches the template's field at its place.
+fn field_matches(template: Field, entry: Field) -> bool
+    ensures { λ r. ⌜ r ≡ fieldMatches template entry ⌝ }
+{
+    if template.kind != entry.kind {
+        return false;
+    }
+    if template.state != DEFINED {
+        return true;
+    }
+    template.value == entry.value
+}

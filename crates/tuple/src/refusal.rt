@@ -1,0 +1,49 @@
+// Why a call is not obeyed, by 01's numbers.
+ghost use mathlib.Core.Path.{_≡_};
+ghost use Rattle.tuple.specs.Refusals.{numberOf};
+
+pub enum Refusal {
+    // 1: a configuration that is not sound, or a space or process state that is not well formed.
+    Unsound,
+    // 2: the bytes end inside a number or record.
+    Cut,
+    // 3: a number too long or not shortest, or a value beyond its kind.
+    Beyond,
+    // 4: an unknown call code or head.
+    Unknown,
+    // 5: a field count not 1 to 6, an undefined field in an entry, or an unused part that is not zero.
+    Misshapen,
+    // 6: process 0, or one above n.
+    Stranger,
+    // 7: the policy doesn't permit the call.
+    Denied,
+    // 8: no place for another tuple.
+    Full,
+    // 9: a script too long.
+    LongScript,
+    // 10: a buffer shorter than what is to be written.
+    NoRoom,
+    // 11: a reply that doesn't fit the process's state.
+    Unfit,
+}
+
+impl Refusal {
+    // The number of a refusal.
+    pub fn number(self) -> u8
+        ensures { λ r. ⌜ r ≡ numberOf self ⌝ }
+    {
+        match self {
+            Refusal::Unsound => 1,
+            Refusal::Cut => 2,
+            Refusal::Beyond => 3,
+            Refusal::Unknown => 4,
+            Refusal::Misshapen => 5,
+            Refusal::Stranger => 6,
+            Refusal::Denied => 7,
+            Refusal::Full => 8,
+            Refusal::LongScript => 9,
+            Refusal::NoRoom => 10,
+            Refusal::Unfit => 11,
+        }
+    }
+}

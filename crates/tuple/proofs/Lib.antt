@@ -1,5 +1,6 @@
 pub mod FaultLaws
-mod Lengths
+pub mod Lengths
 pub mod Lists
+pub mod MatchRules
 pub mod MatchingLaws
 pub mod OffsetLaws

@@ -1,10 +1,18 @@
--- The law of the coding of offsets, as a claim over the definitions.
+-- The laws of offsets and of matching, as claims over the definitions.
 use mathlib.Core.Path.{_≡_}
-use mathlib.Core.Bool.{true}
-use Prim.Native.Nat.{ℕ, _≤_}
+use mathlib.Core.Bool.{true, false}
+use mathlib.Core.List.{List}
+use mathlib.Core.Logic.{_↔_}
+use Prim.Native.Nat.{ℕ, _≤_, _<_}
+use lib.ListN.{length, getD}
 use lib.IntN.{ℤ, pos, negℤ}
 use Rattle.tuple.specs.declared.offset.Offset.{Offset}
 use Rattle.tuple.specs.declared.offset.Offset.the-variants.{Bottom, Hundredths}
+use Rattle.tuple.specs.declared.field.Field.{Field}
+use Rattle.tuple.specs.declared.field.Tuple.{Tuple}
+use Rattle.tuple.specs.declared.matching.Found.the-variants.{At, Nowhere}
+use Rattle.tuple.specs.Fields.{defined, places, blankField, blankTuple}
+use Rattle.tuple.specs.Matching.{matches, oldestOf}
 use Rattle.tuple.specs.Offsets.{largestCode, inRange, codeOf, offsetOf}
 
 -- the coding is one to one between the offsets in range, bottom among them, and the numbers from 0 to the largest code
@@ -17,3 +25,28 @@ pub record OneToOne : Type 0 where
   pub signed : (z : ℤ) → codeOf (Hundredths z) ≡ codeOf (Hundredths (negℤ z)) → z ≡ pos 0
   -- bottom and a number never share a code
   pub apart : (z : ℤ) → codeOf Bottom ≡ codeOf (Hundredths z) → ⊥
+
+-- ---- matching, in 01's words
+
+-- two fields at one place: the same kind, and equal values if the template's is defined
+pub record Fits (template entry : Field) : Type 0 where
+  pub kind : template .kind ≡ entry .kind
+  pub value : template .state ≡ defined → template .value ≡ entry .value
+
+-- a template and an entry of six places match when they have as many fields, the same kind at each place, and equal values wherever the
+-- template's field is defined
+abbrev pub MatchRule : Type 0
+MatchRule =
+    (template entry : Tuple)
+    → length (template .fields) ≡ places
+    → length (entry .fields) ≡ places
+    → template .count ≤ places
+    → (matches template entry ≡ true) ↔ ((entry .count ≡ template .count) × ((i : ℕ) → i < template .count → Fits (getD (template .fields) i blankField) (getD (entry .fields) i blankField)))
+
+-- the oldest tuple that matches stands at i when it matches and none before it does; there is none when none does
+pub record OldestRule : Type 0 where
+  pub at : (tuples : List Tuple) (template : Tuple) (i : ℕ)
+      → (oldestOf tuples template ≡ At i)
+      ↔ ((i < length tuples) × (matches template (getD tuples i blankTuple) ≡ true) × ((j : ℕ) → j < i → matches template (getD tuples j blankTuple) ≡ false))
+  pub nowhere : (tuples : List Tuple) (template : Tuple)
+      → (oldestOf tuples template ≡ Nowhere) ↔ ((j : ℕ) → j < length tuples → matches template (getD tuples j blankTuple) ≡ false)

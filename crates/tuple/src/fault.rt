@@ -59,13 +59,15 @@ fn used_fault(call: Call) -> Fault
     part_fault(entry, uses_entry(code), true)
 }
 
-fn uses_template(code: u8) -> bool
+// Whether a call of this code has a template: rdp, inp and cas do.
+pub fn uses_template(code: u8) -> bool
     ensures { λ r. ⌜ r ≡ usesTemplate code ⌝ }
 {
     code != OUT
 }
 
-fn uses_entry(code: u8) -> bool
+// Whether a call of this code has an entry: out and cas do.
+pub fn uses_entry(code: u8) -> bool
     ensures { λ r. ⌜ r ≡ usesEntry code ⌝ }
 {
     if code == OUT { true } else { code == CAS }

@@ -6,6 +6,8 @@ mod offset;
 mod refusal;
 
 pub use fault::Fault;
+pub use fault::uses_entry;
+pub use fault::uses_template;
 pub use field::CAS;
 pub use field::COUNT;
 pub use field::Call;

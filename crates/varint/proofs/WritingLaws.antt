@@ -75,9 +75,17 @@ groups-most (suc k) (suc more) value h =
     (λ e. rw (groups-last (suc k) value (ltb-true value 128 e)) (omega arith))
     (λ e. rw (groups-step k value (ltb-false value 128 e)) (omega (arith, groups-most k more (value / 128) (omega arith))))
 
-pub width-most : (value : ℕ) → value < 2 ^ 64 → widthOf value ≤ 10
-unfolding bytesOf top
-width-most value h = groups-most 9 9 value (omega arith)
+groups-all : (k value : ℕ) → length (groupsOf k value) ≤ k + 1
+unfolding groupsOf
+groups-all zero value = omega arith
+groups-all (suc k) value =
+    cases (ltb value 128)
+    (λ e. rw (groups-last (suc k) value (ltb-true value 128 e)) (omega arith))
+    (λ e. rw (groups-step k value (ltb-false value 128 e)) (omega (arith, groups-all k (value / 128))))
+
+pub width-most : (value : ℕ) → widthOf value ≤ 10
+unfolding bytesOf
+width-most value = groups-all 9 value
 
 pub width-of-largest : (value : ℕ) → value ≤ largest → widthOf value ≤ 5
 unfolding bytesOf top

@@ -19,7 +19,7 @@ loop-holds : tie.Need-loop-holds Inv-loop μ-loop
 loop-holds c = search needs
 
 add-n : tie.Need-add-n Inv-loop μ-loop
-add-n c = omega (arith, width-most (c .before .before .args .value) (c .before .before .fits .value .fits))
+add-n c = omega (arith, width-most (c .before .before .args .value))
 
 loop-less : tie.Need-loop-less Inv-loop μ-loop
 loop-less c = omega arith

@@ -1,0 +1,67 @@
+-- A known field's head number says its kind and its state, a head number that says them is theirs, and a number that is none of the twelve is no head. From the definitions.
+use mathlib.Core.Path.{_≡_}
+use Prim.Native.Nat.{ℕ, _+_, _*_, _/_, _%_, _≤_}
+use native.Mathlib.Omega.{arith}
+use mathlib.Core.Bool.{true, _&&_}
+use lib.Dec.{leb, eqb}
+use Rattle.record.specs.declared.head.Head.{Head}
+use Rattle.record.specs.declared.head.Head.the-variants.{Known, Unknown}
+use Rattle.record.specs.Heads.{headNumber, headOf}
+use Rattle.record.proofs.NoFault.{known-head}
+use Rattle.record.proofs.Tests.{picked}
+use Rattle.tuple.specs.declared.field.Field.{Field}
+use Rattle.tuple.specs.Fields.{word, seats, formal}
+use Rattle.tuple.specs.Faults.{knownHead}
+use borrow.Author.Tests.{lt-leb, leb-true, eqb-true, eqb-false}
+use borrow.Table.Steps.{cases}
+
+pub head-of : (field : Field) → knownHead field ≡ true → headOf (headNumber field) ≡ Known (field .kind) (field .state)
+unfolding headOf knownHead
+head-of field known =
+    let head = known-head field known in
+    let kind : headNumber field / 4 ≡ field .kind = omega arith in
+    let state : headNumber field % 4 ≡ field .state = omega arith in
+    rw (kind, state, known)
+
+-- the number is the head of a known field with the kind and the state that are said
+unfoldable pub Says : ℕ → Head → Type 0
+Says number (Known kind state) = (number ≡ 4 * kind + state) × ((value : ℕ) → knownHead (record { kind = kind; state = state; value = value }) ≡ true)
+Says number Unknown = Unit {0}
+
+pub head-says : (number : ℕ) → Says number (headOf number)
+unfolding Says headOf knownHead
+head-says number =
+    picked (Says number) (leb word (number / 4) && leb (number / 4) seats && leb (number % 4) formal) (λ e. (omega arith, λ value. e)) (λ e. tt)
+
+-- ---- no head
+
+-- a number of this kind that is none of its three heads has the state 3
+other-state : (number kind : ℕ) → number / 4 ≡ kind → (number ≡ 4 * kind → ⊥) → (number ≡ 4 * kind + 1 → ⊥) → (number ≡ 4 * kind + 2 → ⊥) → number % 4 ≡ 3
+other-state number kind e n0 n1 n2 = omega arith
+
+last-kind : (kind : ℕ) → 1 ≤ kind → kind ≤ 4 → (kind ≡ 1 → ⊥) → (kind ≡ 2 → ⊥) → (kind ≡ 3 → ⊥) → kind ≡ 4
+last-kind kind low high n1 n2 n3 = omega arith
+
+no-state : (number : ℕ) → (1 ≤ number / 4 → number / 4 ≤ 4 → number % 4 ≡ 3) → headOf number ≡ Unknown
+unfolding headOf
+no-state number three =
+    cases (leb 1 (number / 4))
+    (λ low. cases (leb (number / 4) 4)
+    (λ high. rw (low, high, lt-leb (number % 4) 2 (omega (arith, three (leb-true 1 (number / 4) low) (leb-true (number / 4) 4 high)))))
+    (λ high. rw (low, high)))
+    (λ low. rw low)
+
+pub no-head : (number : ℕ)
+    → (number ≡ 4 → ⊥) → (number ≡ 5 → ⊥) → (number ≡ 6 → ⊥) → (number ≡ 8 → ⊥) → (number ≡ 9 → ⊥) → (number ≡ 10 → ⊥)
+    → (number ≡ 12 → ⊥) → (number ≡ 13 → ⊥) → (number ≡ 14 → ⊥) → (number ≡ 16 → ⊥) → (number ≡ 17 → ⊥) → (number ≡ 18 → ⊥)
+    → headOf number ≡ Unknown
+no-head number n4 n5 n6 n8 n9 n10 n12 n13 n14 n16 n17 n18 =
+    no-state number
+    (λ low high.
+    cases (eqb (number / 4) 1)
+    (λ e. other-state number 1 (eqb-true (number / 4) 1 e) n4 n5 n6)
+    (λ e1. cases (eqb (number / 4) 2)
+    (λ e. other-state number 2 (eqb-true (number / 4) 2 e) n8 n9 n10)
+    (λ e2. cases (eqb (number / 4) 3)
+    (λ e. other-state number 3 (eqb-true (number / 4) 3 e) n12 n13 n14)
+    (λ e3. other-state number 4 (last-kind (number / 4) low high (eqb-false (number / 4) 1 e1) (eqb-false (number / 4) 2 e2) (eqb-false (number / 4) 3 e3)) n16 n17 n18))))

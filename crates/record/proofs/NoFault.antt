@@ -1,0 +1,118 @@
+-- What a field, a tuple and a call without fault are: each test that their faults are made of passed. From the definitions of faults alone.
+use mathlib.Core.Path.{_≡_, refl}
+use Prim.Native.Nat.{ℕ, _≤_}
+use native.Mathlib.Omega.{arith}
+use mathlib.Core.Bool.{Bool, true, false, not, _&&_, _||_, or-false}
+use mathlib.Core.List.{List, _∷_}
+use lib.ListN.{take}
+use lib.Dec.{leb, eqb}
+use borrow.Author.Tests.{leb-true, not-true}
+use Rattle.record.proofs.Tests.{picked, both, between}
+use Rattle.tuple.specs.declared.fault.Fault.{Fault}
+use Rattle.tuple.specs.declared.fault.Fault.the-variants.{Absent, Present}
+use Rattle.tuple.specs.declared.field.Field.{Field}
+use Rattle.tuple.specs.declared.field.Tuple.{Tuple}
+use Rattle.tuple.specs.declared.field.Call.{Call}
+use Rattle.tuple.specs.declared.refusal.Refusal.{Refusal}
+use Rattle.tuple.specs.declared.refusal.Refusal.the-variants.{Beyond, Unknown, Misshapen}
+use Rattle.tuple.specs.Fields.{word, count, offset, seats, formal, out, cas, places, largestOf}
+use Rattle.tuple.specs.Faults.{unless, first, knownHead, isDefined, fieldFault, fieldsFault, tupleFault, partFault, usesTemplate, usesEntry, usedFault, restBlank, callFault}
+use Rattle.varint.specs.Reading.{largest}
+
+-- ---- faults
+
+unless-absent : (t : Bool) (refusal : Refusal) (next : Fault) → unless t refusal next ≡ Absent → (t ≡ true) × (next ≡ Absent)
+unless-absent true refusal next h = (refl, h)
+unless-absent false refusal next h = let z : _≡_ {A = ℕ} 0 1 = cc in absurd (omega arith)
+
+first-absent : (a b : Fault) → first a b ≡ Absent → (a ≡ Absent) × (b ≡ Absent)
+first-absent Absent b h = (refl, h)
+first-absent (Present refusal) b h = let z : _≡_ {A = ℕ} 0 1 = cc in absurd (omega arith)
+
+-- ---- a field
+
+pub known-head : (field : Field) → knownHead field ≡ true → (field .kind ≤ seats) × (field .state ≤ formal)
+unfolding knownHead
+known-head field h =
+    let tests = both (leb word (field .kind) && leb (field .kind) seats) (leb (field .state) formal) h in
+    (between word (field .kind) seats (tests .0) .1, leb-true (field .state) formal (tests .1))
+
+-- every kind's values are numbers that varint holds
+pub kind-most : (kind : ℕ) → largestOf kind ≤ largest
+unfolding largestOf
+kind-most kind =
+    picked Most (eqb kind word) (λ e. omega arith)
+    (λ e. picked Most (eqb kind count) (λ e. omega arith)
+    (λ e. picked Most (eqb kind offset) (λ e. omega arith)
+    (λ e. picked Most (eqb kind seats) (λ e. omega arith) (λ e. omega arith))))
+  where
+    Most : ℕ → Type 0
+    Most n = n ≤ largest
+
+pub record SoundField (entry : Bool) (field : Field) : Type 0 where
+  pub known : knownHead field ≡ true
+  pub shaped : isDefined field ≡ false → entry ≡ false
+  pub small : isDefined field ≡ true → field .value ≤ largestOf (field .kind)
+
+field-sound : (entry : Bool) (field : Field) → fieldFault entry field ≡ Absent → SoundField entry field
+unfolding fieldFault
+field-sound entry field h =
+    let known = unless-absent (knownHead field) Unknown _ h in
+    let shaped = unless-absent (not entry || isDefined field) Misshapen _ (known .1) in
+    let small = unless-absent (not (isDefined field) || leb (field .value) (largestOf (field .kind))) Beyond Absent (shaped .1) in
+    record {
+      known = known .0;
+      shaped = λ d. not-true entry (simp (d, or-false) at (shaped .0));
+      small = λ d. leb-true (field .value) (largestOf (field .kind)) (rw d at (small .0));
+    }
+
+-- ---- the fields of a tuple
+
+pub fields-sound : (entry : Bool) (field : Field) (fields : List Field) → fieldsFault entry (field ∷ fields) ≡ Absent
+    → SoundField entry field × (fieldsFault entry fields ≡ Absent)
+unfolding fieldsFault
+fields-sound entry field fields h =
+    let parts = first-absent (fieldFault entry field) (fieldsFault entry fields) h in (field-sound entry field (parts .0), parts .1)
+
+pub record SoundTuple (entry : Bool) (tuple : Tuple) : Type 0 where
+  pub some : 1 ≤ tuple .count
+  pub few : tuple .count ≤ places
+  pub fields : fieldsFault entry (take (tuple .count) (tuple .fields)) ≡ Absent
+
+pub tuple-sound : (entry : Bool) (tuple : Tuple) → tupleFault entry tuple ≡ Absent → SoundTuple entry tuple
+unfolding tupleFault
+tuple-sound entry tuple h =
+    let counted = unless-absent (leb 1 (tuple .count) && leb (tuple .count) places) Misshapen _ h in
+    let range = between 1 (tuple .count) places (counted .0) in
+    record { some = range .0; few = range .1; fields = counted .1 }
+
+-- ---- the call
+
+-- a part of a call, used or not
+pub record SoundPart (used entry : Bool) (tuple : Tuple) : Type 0 where
+  pub fault : partFault tuple used entry ≡ Absent
+  pub rest : restBlank tuple used ≡ true
+
+pub record SoundCall (call : Call) : Type 0 where
+  pub low : out ≤ call .code
+  pub high : call .code ≤ cas
+  pub template : SoundPart (usesTemplate (call .code)) false (call .template)
+  pub entry : SoundPart (usesEntry (call .code)) true (call .entry)
+
+pub call-sound : (call : Call) → callFault call ≡ Absent → SoundCall call
+unfolding callFault usedFault
+call-sound call h =
+    let template = usesTemplate (call .code) in
+    let entry = usesEntry (call .code) in
+    let used-rest = first-absent (usedFault call) _ h in
+    let used = unless-absent (leb out (call .code) && leb (call .code) cas) Unknown _ (used-rest .0) in
+    let faults = first-absent (partFault (call .template) template false) (partFault (call .entry) entry true) (used .1) in
+    let rest = unless-absent (restBlank (call .template) template && restBlank (call .entry) entry) Misshapen Absent (used-rest .1) in
+    let rests = both (restBlank (call .template) template) (restBlank (call .entry) entry) (rest .0) in
+    let code = between out (call .code) cas (used .0) in
+    record {
+      low = code .0;
+      high = code .1;
+      template = record { fault = faults .0; rest = rests .0 };
+      entry = record { fault = faults .1; rest = rests .1 };
+    }

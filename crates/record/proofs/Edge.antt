@@ -2,12 +2,18 @@
 use mathlib.Core.Path.{refl}
 use Rattle.record.specs.EdgeValues.{EdgeValues, seen, stated}
 use Rattle.record.specs.Heads.{headOf}
-use Rattle.record.specs.Reading.{readNumber, valueAt, fieldAt}
-use Rattle.record.specs.Writing.{fieldBytes}
+use Rattle.record.specs.Reading.{readNumber, valueAt, fieldAt, fieldsAt, tupleAt, partAt, partsAt, bodyAt, callAt}
+use Rattle.record.specs.Writing.{fieldBytes, fieldsBytes, tupleBytes, partBytes, callBytes, writtenOf, leftOf}
 use Rattle.tuple.specs.Fields.{largestOf}
+use Rattle.tuple.specs.Faults.{knownHead, fieldFault, fieldsFault, tupleFault, partFault, usesTemplate, usesEntry, usedFault, isBlank, placeBlank, restFrom, restBlank, callFault}
+use Rattle.tuple.specs.Offsets.{decodedOf}
 use Rattle.varint.specs.Reading.{joined, numberFrom, numberAt}
-use Rattle.varint.specs.Writing.{groupsOf, bytesOf}
+use Rattle.varint.specs.Writing.{groupsOf, bytesOf, writtenAt, leftAt}
 
 pub edge-values : EdgeValues
-unfolding seen stated readNumber numberAt numberFrom joined fieldAt headOf valueAt largestOf fieldBytes bytesOf groupsOf
+unfolding seen stated decodedOf largestOf
+  joined numberFrom numberAt groupsOf bytesOf writtenAt leftAt
+  headOf readNumber valueAt fieldAt fieldsAt tupleAt partAt partsAt bodyAt callAt
+  fieldBytes fieldsBytes tupleBytes partBytes callBytes writtenOf leftOf
+  knownHead fieldFault fieldsFault tupleFault partFault usesTemplate usesEntry usedFault isBlank placeBlank restFrom restBlank callFault
 edge-values = refl

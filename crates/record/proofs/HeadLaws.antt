@@ -7,10 +7,10 @@ use lib.Dec.{leb, eqb}
 use Rattle.record.specs.declared.head.Head.{Head}
 use Rattle.record.specs.declared.head.Head.the-variants.{Known, Unknown}
 use Rattle.record.specs.Heads.{headNumber, headOf}
-use Rattle.record.proofs.NoFault.{known-head}
-use Rattle.record.proofs.Tests.{picked}
+use Rattle.tuple.proofs.NoFault.{known-head}
+use Rattle.varint.proofs.ReadingLaws.{picked}
 use Rattle.tuple.specs.declared.field.Field.{Field}
-use Rattle.tuple.specs.Fields.{word, seats, formal}
+use Rattle.tuple.specs.Fields.{word, processSet, formal}
 use Rattle.tuple.specs.Faults.{knownHead}
 use borrow.Author.Tests.{lt-leb, leb-true, eqb-true, eqb-false}
 use borrow.Table.Steps.{cases}
@@ -31,7 +31,7 @@ Says number Unknown = Unit {0}
 pub head-says : (number : ℕ) → Says number (headOf number)
 unfolding Says headOf knownHead
 head-says number =
-    picked (Says number) (leb word (number / 4) && leb (number / 4) seats && leb (number % 4) formal) (λ e. (omega arith, λ value. e)) (λ e. tt)
+    picked (Says number) (leb word (number / 4) && leb (number / 4) processSet && leb (number % 4) formal) (λ e. (omega arith, λ value. e)) (λ e. tt)
 
 -- ---- no head
 

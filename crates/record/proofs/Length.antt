@@ -8,8 +8,9 @@ use lib.ListN.{length, take, replicate, length-append, length-take}
 use Rattle.record.specs.Heads.{headNumber}
 use Rattle.record.specs.Writing.{fieldBytes, fieldsBytes, tupleBytes, partBytes, callBytes}
 use Rattle.record.specs.Laws.{AtMost, Attained}
-use Rattle.record.proofs.NoFault.{known-head, kind-most, SoundField, fields-sound, tuple-sound, call-sound}
-use Rattle.record.proofs.Tests.{picked}
+use Rattle.record.proofs.NumberLaws.{kind-most}
+use Rattle.tuple.proofs.NoFault.{known-head, SoundField, fields-sound, tuple-sound, call-sound}
+use Rattle.varint.proofs.ReadingLaws.{picked}
 use Rattle.tuple.specs.declared.fault.Fault.the-variants.{Absent}
 use Rattle.tuple.specs.declared.field.Field.{Field}
 use Rattle.tuple.specs.declared.field.Tuple.{Tuple}
@@ -58,12 +59,12 @@ part-most false entry tuple h = omega arith
 -- a process of at most five bytes, a code of one, and two parts
 pub at-most : AtMost
 unfolding callBytes
-at-most call held h =
+at-most call typed h =
     let sound = call-sound call h in
     simp length-append
     (omega (
       arith,
-      width-of-largest (call .process) (held .process),
+      width-of-largest (call .process) (typed .process),
       width-one (call .code) (omega arith),
       part-most (usesTemplate (call .code)) false (call .template) (sound .template .fault),
       part-most (usesEntry (call .code)) true (call .entry) (sound .entry .fault),

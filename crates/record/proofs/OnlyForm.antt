@@ -21,8 +21,8 @@ use Rattle.record.specs.Reading.{onward, noField, noFields, noTuple, noC
 use Rattle.record.specs.Writing.{fieldBytes, fieldsBytes, tupleBytes, partBytes, callBytes}
 use Rattle.record.specs.Laws.{Read, OnlyForm}
 use Rattle.record.proofs.HeadLaws.{Says, head-says}
-use Rattle.record.proofs.NoFault.{SoundPart}
-use Rattle.record.proofs.Tests.{picked, between}
+use Rattle.varint.proofs.ReadingLaws.{picked}
+use Rattle.tuple.proofs.NoFault.{between, SoundPart}
 use Rattle.tuple.specs.declared.fault.Fault.the-variants.{Absent}
 use Rattle.tuple.specs.declared.field.Field.{Field}
 use Rattle.tuple.specs.declared.field.Tuple.{Tuple}
@@ -140,7 +140,7 @@ unfolding callBytes callFault usedFault
 call-read e process code template entry =
     let took = took-both (process .took) (took-both (code .took) (took-both (template .took) (entry .took))) in
     record {
-      held = record { process = process .most; template = template .six; entry = entry .six };
+      typed = record { process = process .most; template = template .six; entry = entry .six };
       sound = rw (e, template .sound .fault, entry .sound .fault, template .sound .rest, entry .sound .rest);
       taken = took .taken;
       bytes = took .stand;

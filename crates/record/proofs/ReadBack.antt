@@ -1,28 +1,34 @@
--- What is written for a call without fault reads back to that call, and reading ends behind it: a number, a field, fields, a tuple, a part, the call. From varint's law and what no fault tells.
+-- What is written for a call without fault reads back to that call, and reading ends behind it: a number, a field, fields, a tuple, a part, the call, and what the writer leaves. From varint's law and what no fault tells.
 use mathlib.Core.Path.{_≡_, refl, sym, ap, ap₂, _∙_}
 use Prim.Native.Nat.{ℕ, zero, suc, _+_, _≤_}
 use native.Mathlib.Omega.{arith}
 use native.Mathlib.Nat.{add-zero, add-assoc}
-use mathlib.Core.Bool.{Bool, true, false, cond, _&&_}
+use mathlib.Core.Bool.{Bool, true, false, cond, _&&_, and-eq-true-iff}
 use mathlib.Core.List.{List, [], _∷_, _++_, append-assoc}
 use lib.ListN.{length, take, drop, replicate, length-append, length-drop}
 use lib.Seq.{drop-drop, drop-append-seam}
-use lib.Dec.{eqb}
+use lib.Dec.{leb, eqb}
 use borrow.Author.Tests.{le-leb, eqb-true}
 use borrow.Table.Steps.{cases}
 use Rattle.record.specs.declared.head.Head.the-variants.{Known}
+use Rattle.record.specs.declared.reader.ReadCall.{ReadCall}
+use Rattle.record.specs.declared.writer.Recorded.{Recorded}
+use Rattle.record.specs.declared.writer.Recorded.the-variants.{Length, Unwritten}
 use Rattle.record.specs.Heads.{headNumber}
 use Rattle.record.specs.Reading.{place, numberStep, readNumber, valueAt, headStep, fieldAt, fieldsAt, tupleAt, partAt, partsAt, bodyAt, callAt}
-use Rattle.record.specs.Writing.{fieldBytes, fieldsBytes, tupleBytes, partBytes, callBytes}
-use Rattle.record.specs.Laws.{ReadBack}
+use Rattle.record.specs.Writing.{fieldBytes, fieldsBytes, tupleBytes, partBytes, callBytes, roomStep, writtenOf, leftOf}
+use Rattle.record.specs.Laws.{ReadBack, WrittenBack}
 use Rattle.record.proofs.HeadLaws.{head-of}
-use Rattle.record.proofs.NoFault.{known-head, kind-most, SoundField, fields-sound, tuple-sound, SoundPart, call-sound}
-use Rattle.record.proofs.Tests.{both}
-use Rattle.tuple.specs.declared.fault.Fault.the-variants.{Absent}
+use Rattle.record.proofs.NumberLaws.{kind-most}
+use Rattle.tuple.proofs.NoFault.{known-head, SoundField, fields-sound, tuple-sound, SoundPart, call-sound}
+use Rattle.tuple.specs.declared.fault.Fault.{Fault}
+use Rattle.tuple.specs.declared.fault.Fault.the-variants.{Absent, Present}
 use Rattle.tuple.specs.declared.field.Field.{Field}
 use Rattle.tuple.specs.declared.field.Tuple.{Tuple}
+use Rattle.tuple.specs.declared.field.Call.{Call}
+use Rattle.tuple.specs.Refusals.{refusal}
 use Rattle.tuple.specs.Fields.{defined, out, cas, places, largestOf, blankField}
-use Rattle.tuple.specs.Faults.{isDefined, fieldsFault, tupleFault, partFault, usesTemplate, usesEntry, isBlank, placeBlank, restFrom, restBlank}
+use Rattle.tuple.specs.Faults.{isDefined, fieldsFault, tupleFault, partFault, usesTemplate, usesEntry, isBlank, placeBlank, restFrom, restBlank, callFault}
 use Rattle.varint.specs.Reading.{largest}
 use Rattle.varint.specs.Writing.{bytesOf, widthOf}
 use Rattle.varint.proofs.ReadingLaws as varint
@@ -77,7 +83,7 @@ fields-back entry zero fields few sound blank s rest at e = rw add-zero
 fields-back entry (suc count) [] few sound blank s rest at e = absurd (omega arith)
 fields-back entry (suc count) (field ∷ fields) few sound blank s rest at e =
     let each = fields-sound entry field (take count fields) sound in
-    let blanks = both (placeBlank field true) (restFrom count fields) blank in
+    let blanks = and-eq-true-iff (placeBlank field true) (restFrom count fields) .0 blank in
     let more = fieldsBytes (take count fields) in
     let stands = parts s (fieldBytes field) more rest at e in
     rw (
@@ -89,8 +95,8 @@ fields-back entry (suc count) (field ∷ fields) few sound blank s rest at e =
 blank-field : (field : Field) → isBlank field ≡ true → blankField ≡ field
 unfolding isBlank
 blank-field field h =
-    let head-value = both (eqb (field .kind) 0 && eqb (field .state) 0) (eqb (field .value) 0) h in
-    let head = both (eqb (field .kind) 0) (eqb (field .state) 0) (head-value .0) in
+    let head-value = and-eq-true-iff (eqb (field .kind) 0 && eqb (field .state) 0) (eqb (field .value) 0) .0 h in
+    let head = and-eq-true-iff (eqb (field .kind) 0) (eqb (field .state) 0) .0 (head-value .0) in
     λ i. record {
       kind = sym (eqb-true (field .kind) 0 (head .0)) i;
       state = sym (eqb-true (field .state) 0 (head .1)) i;
@@ -104,10 +110,10 @@ unfolding restFrom placeBlank
 rest-blank zero [] h = refl
 rest-blank (suc count) [] h = refl
 rest-blank zero (field ∷ fields) h =
-    let blanks = both (isBlank field) (restFrom 0 fields) h in
+    let blanks = and-eq-true-iff (isBlank field) (restFrom 0 fields) .0 h in
     ap₂ (λ (f : Field) (l : List Field). f ∷ l) (blank-field field (blanks .0)) (rest-blank 0 fields (blanks .1))
 rest-blank (suc count) (field ∷ fields) h =
-    ap (λ (l : List Field). field ∷ l) (rest-blank count fields (both (placeBlank field true) (restFrom count fields) h .1))
+    ap (λ (l : List Field). field ∷ l) (rest-blank count fields (and-eq-true-iff (placeBlank field true) (restFrom count fields) .0 h .1))
 
 tuple-back : (entry : Bool) (tuple : Tuple) → length (tuple .fields) ≡ places → tupleFault entry tuple ≡ Absent → restFrom (tuple .count) (tuple .fields) ≡ true
     → (s rest : List ℕ) (at : ℕ) → drop at s ≡ tupleBytes tuple ++ rest
@@ -134,13 +140,13 @@ part-back : (used entry : Bool) (tuple : Tuple) → length (tuple .fields) ≡ p
 unfolding partFault restBlank partAt partBytes
 part-back true entry tuple six sound s rest at e = tuple-back entry tuple six (sound .fault) (sound .rest) s rest at e
 part-back false entry tuple six sound s rest at e =
-    let blanks = both (eqb (tuple .count) 0) (restFrom (tuple .count) (tuple .fields)) (sound .rest) in
+    let blanks = and-eq-true-iff (eqb (tuple .count) 0) (restFrom (tuple .count) (tuple .fields)) .0 (sound .rest) in
     let none : tuple .count ≡ 0 = eqb-true (tuple .count) 0 (blanks .0) in
     λ i. record { next = place (sym (add-zero at) i); tuple = record { count = sym none i; fields = (rw six at (rest-blank 0 (tuple .fields) (rw none at (blanks .1)))) i } }
 
 pub read-back : ReadBack
 unfolding callAt bodyAt partsAt callBytes
-read-back call s rest at held h e =
+read-back call s rest at typed h e =
     let sound = call-sound call h in
     let process = bytesOf (call .process) in
     let code = bytesOf (call .code) in
@@ -150,11 +156,30 @@ read-back call s rest at held h e =
     let behind = parts s code (template ++ entry) rest (at + length process) (stands .1) in
     let last = parts s template entry rest (at + length process + length code) (behind .1) in
     rw (
-      number-back s _ at (call .process) (held .process) (stands .0),
+      number-back s _ at (call .process) (typed .process) (stands .0),
       number-back s _ (at + length process) (call .code) (omega arith) (behind .0),
       le-leb out (call .code) (sound .low),
       le-leb (call .code) cas (sound .high),
-      part-back (usesTemplate (call .code)) false (call .template) (held .template) (sound .template) s _ (at + length process + length code) (last .0),
-      part-back (usesEntry (call .code)) true (call .entry) (held .entry) (sound .entry) s rest (at + length process + length code + length template) (last .1),
+      part-back (usesTemplate (call .code)) false (call .template) (typed .template) (sound .template) s _ (at + length process + length code) (last .0),
+      part-back (usesEntry (call .code)) true (call .entry) (typed .entry) (sound .entry) s rest (at + length process + length code + length template) (last .1),
     )
     (simp (length-append, add-assoc))
+
+-- ---- what the writer leaves
+
+-- it took the call: it has no fault, and the length is the record's
+took : (call : Call) (room n : ℕ) (fault : Fault) → roomStep call room fault ≡ Length n → (fault ≡ Absent) × (length (callBytes call) ≡ n)
+took call room n (Present why) e = let z : _≡_ {A = ℕ} 0 1 = cc in absurd (omega arith)
+took call room n Absent e =
+    ( refl
+    , cases (leb (length (callBytes call)) room)
+    (λ fits. let whole : _≡_ {A = Recorded} (Length (length (callBytes call))) (Length n) = rw fits at e in cc)
+    (λ full. let none : _≡_ {A = Recorded} (Unwritten (refusal 10)) (Length n) = rw full at e in let z : _≡_ {A = ℕ} 0 1 = cc in absurd (omega arith)))
+
+pub written-back : WrittenBack
+unfolding writtenOf leftOf
+written-back call buffer n typed e =
+    let sound = took call (length buffer) n (callFault call) e in
+    rw e
+    (read-back call (callBytes call ++ drop n buffer) (drop n buffer) 0 typed (sound .0) refl
+    ∙ ap {B = ReadCall} (λ (k : ℕ). record { next = place k; call = call }) (omega (arith, sound .1)))

@@ -10,8 +10,9 @@ use borrow.Author.Tests.{le-leb, lt-leb}
 use Rattle.record.specs.declared.writer.Recorded.the-variants.{Length, Unwritten}
 use Rattle.record.specs.Heads.{headNumber}
 use Rattle.record.specs.Writing.{fieldBytes, fieldsBytes, tupleBytes, partBytes, callBytes, WritableField, Writable, WritablePart, WritableCall, writtenOf, leftOf}
-use Rattle.record.proofs.NoFault.{kind-most, fields-sound, tuple-sound, SoundPart, call-sound}
-use Rattle.record.proofs.Tests.{picked}
+use Rattle.record.proofs.NumberLaws.{kind-most}
+use Rattle.tuple.proofs.NoFault.{fields-sound, tuple-sound, SoundPart, call-sound}
+use Rattle.varint.proofs.ReadingLaws.{picked}
 use Rattle.tuple.specs.declared.fault.Fault.the-variants.{Absent, Present}
 use Rattle.tuple.specs.declared.field.Field.{Field}
 use Rattle.tuple.specs.declared.field.Tuple.{Tuple}

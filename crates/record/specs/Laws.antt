@@ -3,22 +3,22 @@ use mathlib.Core.Path.{_≡_}
 use Prim.Native.Nat.{ℕ, _+_, _≤_}
 use mathlib.Core.List.{List, _++_}
 use lib.ListN.{length, drop}
+use Rattle.record.specs.declared.writer.Recorded.the-variants.{Length}
 use Rattle.record.specs.Reading.{place, callAt}
-use Rattle.record.specs.Writing.{callBytes}
+use Rattle.record.specs.Writing.{callBytes, writtenOf, leftOf}
 use Rattle.tuple.specs.declared.fault.Fault.the-variants.{Absent}
 use Rattle.tuple.specs.declared.field.Call.{Call}
-use Rattle.tuple.specs.Fields.{places}
+use Rattle.tuple.specs.Fields.{places, largestProcess}
 use Rattle.tuple.specs.Faults.{callFault}
 use Rattle.varint.specs.Laws.{Bytes}
-use Rattle.varint.specs.Reading.{largest}
 
 -- the most bytes of a record
 abbrev pub longest : ℕ
 longest = 80
 
--- what the struct's types say of a call: its process is a 32-bit number, and each of its tuples has six places
-pub record Held (call : Call) : Type 0 where
-  pub process : call .process ≤ largest
+-- what the struct's types say of a call: the bound of its process, and that each of its tuples has six places
+pub record Typed (call : Call) : Type 0 where
+  pub process : call .process ≤ largestProcess
   pub template : length (call .template .fields) ≡ places
   pub entry : length (call .entry .fields) ≡ places
 
@@ -26,14 +26,22 @@ pub record Held (call : Call) : Type 0 where
 abbrev pub ReadBack : Type 0
 ReadBack =
     (call : Call) (s rest : List ℕ) (at : ℕ)
-    → Held call
+    → Typed call
     → callFault call ≡ Absent
     → drop at s ≡ callBytes call ++ rest
     → callAt s at ≡ record { next = place (at + length (callBytes call)); call = call }
 
+-- the same of what the writer leaves in a buffer that it took
+abbrev pub WrittenBack : Type 0
+WrittenBack =
+    (call : Call) (buffer : List ℕ) (n : ℕ)
+    → Typed call
+    → writtenOf call (length buffer) ≡ Length n
+    → callAt (leftOf call buffer) 0 ≡ record { next = place n; call = call }
+
 -- whatever reads as a call is byte for byte what is written for it, and that call has no fault
 pub record Read (s : List ℕ) (at next : ℕ) (call : Call) : Type 0 where
-  pub held : Held call
+  pub typed : Typed call
   pub sound : callFault call ≡ Absent
   pub taken : next ≡ at + length (callBytes call)
   pub bytes : drop at s ≡ callBytes call ++ drop next s
@@ -43,8 +51,8 @@ OnlyForm = (s : List ℕ) (at next : ℕ) (call : Call) → Bytes s → callAt s
 
 -- a record has at most 80 bytes
 abbrev pub AtMost : Type 0
-AtMost = (call : Call) → Held call → callFault call ≡ Absent → length (callBytes call) ≤ longest
+AtMost = (call : Call) → Typed call → callFault call ≡ Absent → length (callBytes call) ≤ longest
 
 -- and one has exactly 80
 abbrev pub Attained : Type 0
-Attained = (call : Call) × Held call × (callFault call ≡ Absent) × (length (callBytes call) ≡ longest)
+Attained = (call : Call) × Typed call × (callFault call ≡ Absent) × (length (callBytes call) ≡ longest)

@@ -6,7 +6,6 @@ use lib.ListN.{replicate}
 use lib.Dec.{leb, eqb}
 use Rattle.record.specs.declared.head.Head.{Head}
 use Rattle.record.specs.declared.head.Head.the-variants.{Known, Unknown}
-use Rattle.record.specs.declared.reader.Cursor.{Cursor}
 use Rattle.record.specs.declared.reader.Next.{Next}
 use Rattle.record.specs.declared.reader.Next.the-variants.{At, Refused}
 use Rattle.record.specs.declared.reader.ReadNumber.{ReadNumber}
@@ -16,25 +15,27 @@ use Rattle.record.specs.declared.reader.ReadCall.{ReadCall}
 use Rattle.record.specs.Heads.{headOf}
 use Rattle.tuple.specs.declared.field.Field.{Field}
 use Rattle.tuple.specs.declared.field.Tuple.{Tuple}
-use Rattle.tuple.specs.declared.field.Call.{Call}
-use Rattle.tuple.specs.declared.refusal.Refusal.{Refusal}
-use Rattle.tuple.specs.declared.refusal.Refusal.the-variants as refusal
+use Rattle.tuple.specs.Refusals.{refusal}
 use Rattle.tuple.specs.Fields.{defined, out, cas, places, largestOf, blankField, blankTuple, blankCall}
 use Rattle.tuple.specs.Faults.{usesTemplate, usesEntry}
 use Rattle.varint.specs.declared.Number.{Number}
 use Rattle.varint.specs.declared.Number.the-variants.{Value, Cut, Overlong}
-use Rattle.varint.specs.Reading.{numberAt}
+use Rattle.varint.specs.Reading.{numberRefusal, numberAt}
 
 -- the position behind `at` bytes
 abbrev pub place : ℕ → Next
 place at = At (record { at = at })
 
+-- the refusal of 01's number
+abbrev pub refused : ℕ → Next
+refused number = Refused (refusal number)
+
 -- onward from the next place, or out with the refusal
 abbrev pub onward : {X : Type 0} → Next → (ℕ → X) → (Next → X) → X
 onward (At cursor) go stop = go (cursor .at)
-onward (Refused refusal) go stop = stop (Refused refusal)
+onward (Refused why) go stop = stop (Refused why)
 
--- what stands beside a refusal is blank
+-- beside a refusal, or where a part is not used, the value is blank
 abbrev pub noField : Next → ReadField
 noField next = record { next = next; field = blankField }
 
@@ -48,8 +49,8 @@ noCall next = record { next = next; call = blankCall }
 
 abbrev pub numberStep : Number → ReadNumber
 numberStep (Value value next) = record { next = place next; value = value }
-numberStep Cut = record { next = Refused refusal.Cut; value = 0 }
-numberStep Overlong = record { next = Refused refusal.Beyond; value = 0 }
+numberStep Cut = record { next = refused (numberRefusal Cut); value = 0 }
+numberStep Overlong = record { next = refused (numberRefusal Overlong); value = 0 }
 
 unfoldable pub readNumber : List ℕ → ℕ → ReadNumber
 readNumber s at = numberStep (numberAt s at)
@@ -62,7 +63,7 @@ valueStep kind read =
     onward (read .next)
     (λ next. cond (leb (read .value) (largestOf kind))
     (record { next = place next; field = record { kind = kind; state = defined; value = read .value } })
-    (noField (Refused refusal.Beyond)))
+    (noField (refused 3)))
     noField
 
 unfoldable pub valueAt : ℕ → List ℕ → ℕ → ReadField
@@ -70,10 +71,10 @@ valueAt kind s at = valueStep kind (readNumber s at)
 
 -- an unknown head is refused 4, and an undefined field of an entry 5
 abbrev pub headStep : Bool → List ℕ → ℕ → Head → ReadField
-headStep entry s at Unknown = noField (Refused refusal.Unknown)
+headStep entry s at Unknown = noField (refused 4)
 headStep entry s at (Known kind state) =
     cond (eqb state defined) (valueAt kind s at)
-    (cond entry (noField (Refused refusal.Misshapen)) (record { next = place at; field = record { kind = kind; state = state; value = 0 } }))
+    (cond entry (noField (refused 5)) (record { next = place at; field = record { kind = kind; state = state; value = 0 } }))
 
 unfoldable pub fieldAt : Bool → List ℕ → ℕ → ReadField
 fieldAt entry s at =
@@ -109,7 +110,7 @@ tupleStep count read =
 -- a field count not 1 to 6 is refused 5
 abbrev pub countStep : Bool → List ℕ → ℕ → ℕ → ReadTuple
 countStep entry s at count =
-    cond (leb 1 count && leb count places) (tupleStep count (fieldsAt entry count s at)) (noTuple (Refused refusal.Misshapen))
+    cond (leb 1 count && leb count places) (tupleStep count (fieldsAt entry count s at)) (noTuple (refused 5))
 
 unfoldable pub tupleAt : Bool → List ℕ → ℕ → ReadTuple
 tupleAt entry s at =
@@ -138,7 +139,7 @@ partsAt process code s at = templateStep process code s (partAt (usesTemplate co
 -- an unknown code is refused 4
 abbrev pub codeStep : ℕ → List ℕ → ℕ → ℕ → ReadCall
 codeStep process s at code =
-    cond (leb out code && leb code cas) (partsAt process code s at) (noCall (Refused refusal.Unknown))
+    cond (leb out code && leb code cas) (partsAt process code s at) (noCall (refused 4))
 
 unfoldable pub bodyAt : ℕ → List ℕ → ℕ → ReadCall
 bodyAt process s at =

@@ -13,7 +13,7 @@ use Rattle.tuple.specs.declared.fault.Fault.the-variants.{Absent, Present}
 use Rattle.tuple.specs.declared.field.Field.{Field}
 use Rattle.tuple.specs.declared.field.Tuple.{Tuple}
 use Rattle.tuple.specs.declared.field.Call.{Call}
-use Rattle.tuple.specs.declared.refusal.Refusal.the-variants.{NoRoom}
+use Rattle.tuple.specs.Refusals.{refusal}
 use Rattle.tuple.specs.Fields.{places, blankField}
 use Rattle.tuple.specs.Faults.{isDefined, usesTemplate, usesEntry, callFault}
 use Rattle.varint.specs.Reading.{largest}
@@ -63,15 +63,15 @@ pub record WritableCall (call : Call) : Type 0 where
 
 -- what writing answers: the call's fault, then 10, or the record's length
 abbrev pub roomStep : Call → ℕ → Fault → Recorded
-roomStep call room (Present refusal) = Unwritten refusal
-roomStep call room Absent = cond (leb (length (callBytes call)) room) (Length (length (callBytes call))) (Unwritten NoRoom)
+roomStep call room (Present fault) = Unwritten fault
+roomStep call room Absent = cond (leb (length (callBytes call)) room) (Length (length (callBytes call))) (Unwritten (refusal 10))
 
 unfoldable pub writtenOf : Call → ℕ → Recorded
 writtenOf call room = roomStep call room (callFault call)
 
 -- what it leaves: the record from the first byte on and no byte after it changed, or after a refusal no byte at all
 abbrev pub bufferStep : Call → List ℕ → Recorded → List ℕ
-bufferStep call buffer (Unwritten refusal) = buffer
+bufferStep call buffer (Unwritten why) = buffer
 bufferStep call buffer (Length n) = callBytes call ++ drop n buffer
 
 unfoldable pub leftOf : Call → List ℕ → List ℕ

@@ -3,8 +3,6 @@ mod head;
 mod reader;
 mod writer;
 
-pub use head::Head;
-pub use head::head_of;
 pub use reader::Cursor;
 pub use reader::Next;
 pub use reader::ReadCall;
@@ -14,3 +12,6 @@ pub use reader::ReadTuple;
 pub use reader::read;
 pub use writer::Recorded;
 pub use writer::write;
+
+// The most bytes of a record.
+pub const LONGEST: usize = 80;

@@ -141,7 +141,7 @@ impl Cursor {
             return no_tuple(Next::Refused(Refusal::Misshapen));
         }
         let count = value as usize;
-        let mut fields = [Field::blank(); 6];
+        let mut fields = [Field::blank(); FIELDS];
         let mut cursor = start;
         let mut i = 0;
         while i < count {

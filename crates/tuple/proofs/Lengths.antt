@@ -10,7 +10,7 @@ use denote.Laws.{Is}
 use denote.Shadow.{shadow}
 use denote.Struct.Declared.{row}
 use Rattle.tuple.specs.declared.field.Tuple.{Tuple}
-use Rattle.tuple.specs.Fields.{places, room}
+use Rattle.tuple.specs.Fields.{places, capacity}
 use Rattle.tuple.proofs.field.Tuple.{the-type}
 
 pub six : (t : Tuple) (vs : List Val) → Is (row the-type) t vs → length (t .fields) ≡ places
@@ -24,9 +24,9 @@ each-six (t ∷ ts) (u ∷ us) g zero other h = six t (u ∷ []) (g .0)
 each-six (t ∷ ts) (u ∷ us) g (suc i) other h = each-six ts us (g .1) i other (omega arith)
 
 -- a space's tuples, and the fields of each
-pub long : (ts : List Tuple) (vs : List Val) → Is (Array (row the-type) room) ts vs → length ts ≡ room
+pub long : (ts : List Tuple) (vs : List Val) → Is (Array (row the-type) capacity) ts vs → length ts ≡ capacity
 long ts vs g = g .1 .0 .1
 
-pub long-six : (ts : List Tuple) (vs : List Val) → Is (Array (row the-type) room) ts vs → (i : ℕ) (other : Tuple) → i < room
+pub long-six : (ts : List Tuple) (vs : List Val) → Is (Array (row the-type) capacity) ts vs → (i : ℕ) (other : Tuple) → i < capacity
     → length (getD ts i other .fields) ≡ places
 long-six ts vs g i other h = each-six ts (g .0) (g .1 .1) i other (omega (arith, long ts vs g))

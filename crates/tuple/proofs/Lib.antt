@@ -3,4 +3,6 @@ pub mod Lengths
 pub mod Lists
 pub mod MatchRules
 pub mod MatchingLaws
+pub mod NoFault
 pub mod OffsetLaws
+pub mod RefusalLaws

@@ -10,24 +10,24 @@ use Rattle.tuple.specs.declared.field.Field.{Field}
 use Rattle.tuple.specs.declared.field.Tuple.{Tuple}
 use Rattle.tuple.specs.declared.field.Call.{Call}
 use Rattle.tuple.specs.declared.refusal.Refusal.{Refusal}
-use Rattle.tuple.specs.declared.refusal.Refusal.the-variants.{Beyond, Unknown, Misshapen}
-use Rattle.tuple.specs.Fields.{word, seats, defined, formal, out, cas, places, largestOf}
+use Rattle.tuple.specs.Refusals.{refusal}
+use Rattle.tuple.specs.Fields.{word, processSet, defined, formal, out, rdp, cas, places, largestOf}
 
 -- the refusal, unless the test passes; then what comes next
 abbrev pub unless : Bool → Refusal → Fault → Fault
-unless true refusal next = next
-unless false refusal next = Present refusal
+unless true fault next = next
+unless false fault next = Present fault
 
 -- the first of two faults
 abbrev pub first : Fault → Fault → Fault
 first Absent next = next
-first (Present refusal) next = Present refusal
+first (Present fault) next = Present fault
 
 -- ---- the parts that a call uses
 
 -- the kind is 1 to 4 and the state 0 to 2
 unfoldable pub knownHead : Field → Bool
-knownHead field = leb word (field .kind) && leb (field .kind) seats && leb (field .state) formal
+knownHead field = leb word (field .kind) && leb (field .kind) processSet && leb (field .state) formal
 
 abbrev pub isDefined : Field → Bool
 isDefined field = eqb (field .state) defined
@@ -35,9 +35,9 @@ isDefined field = eqb (field .state) defined
 -- an unknown head, then an undefined field in an entry, then a value beyond its kind
 unfoldable pub fieldFault : Bool → Field → Fault
 fieldFault entry field =
-    unless (knownHead field) Unknown
-    (unless (not entry || isDefined field) Misshapen
-    (unless (not (isDefined field) || leb (field .value) (largestOf (field .kind))) Beyond Absent))
+    unless (knownHead field) (refusal 4)
+    (unless (not entry || isDefined field) (refusal 5)
+    (unless (not (isDefined field) || leb (field .value) (largestOf (field .kind))) (refusal 3) Absent))
 
 unfoldable pub fieldsFault : Bool → List Field → Fault
 fieldsFault entry [] = Absent
@@ -46,7 +46,7 @@ fieldsFault entry (field ∷ fields) = first (fieldFault entry field) (fieldsFau
 -- a field count not 1 to 6, then the fields in their order
 unfoldable pub tupleFault : Bool → Tuple → Fault
 tupleFault entry tuple =
-    unless (leb 1 (tuple .count) && leb (tuple .count) places) Misshapen (fieldsFault entry (take (tuple .count) (tuple .fields)))
+    unless (leb 1 (tuple .count) && leb (tuple .count) places) (refusal 5) (fieldsFault entry (take (tuple .count) (tuple .fields)))
 
 -- of a template or an entry that the call uses
 unfoldable pub partFault : Tuple → Bool → Bool → Fault
@@ -54,7 +54,7 @@ partFault tuple used entry = cond used (tupleFault entry tuple) Absent
 
 -- the template: of rdp, inp and cas; the entry: of out and cas
 unfoldable pub usesTemplate : ℕ → Bool
-usesTemplate code = not (eqb code out)
+usesTemplate code = leb rdp code && leb code cas
 
 unfoldable pub usesEntry : ℕ → Bool
 usesEntry code = eqb code out || eqb code cas
@@ -62,7 +62,7 @@ usesEntry code = eqb code out || eqb code cas
 -- an unknown code, then the template, then the entry
 unfoldable pub usedFault : Call → Fault
 usedFault call =
-    unless (leb out (call .code) && leb (call .code) cas) Unknown
+    unless (leb out (call .code) && leb (call .code) cas) (refusal 4)
     (first (partFault (call .template) (usesTemplate (call .code)) false) (partFault (call .entry) (usesEntry (call .code)) true))
 
 -- ---- the parts that it does not use
@@ -89,4 +89,4 @@ restBlank tuple used = (used || eqb (tuple .count) 0) && restFrom (tuple .count)
 unfoldable pub callFault : Call → Fault
 callFault call =
     first (usedFault call)
-    (unless (restBlank (call .template) (usesTemplate (call .code)) && restBlank (call .entry) (usesEntry (call .code))) Misshapen Absent)
+    (unless (restBlank (call .template) (usesTemplate (call .code)) && restBlank (call .entry) (usesEntry (call .code))) (refusal 5) Absent)

@@ -1,7 +1,6 @@
 -- Document 01, "Fields and tuples" and "Calls": kinds, states, words, codes and bounds, each under its name, and what is blank.
 use Prim.Native.Nat.{ℕ}
 use mathlib.Core.Bool.{cond}
-use mathlib.Core.List.{List}
 use lib.ListN.{replicate}
 use lib.Dec.{eqb}
 use Rattle.tuple.specs.declared.field.Field.{Field}
@@ -9,7 +8,7 @@ use Rattle.tuple.specs.declared.field.Tuple.{Tuple}
 use Rattle.tuple.specs.declared.field.Call.{Call}
 use Rattle.tuple.specs.Offsets.{largestCode}
 
--- ---- kinds; a set is 01's seats, seat k the bit worth 2 ^ (k - 1)
+-- ---- kinds; a process set is 01's seats, process k the bit worth 2 ^ (k - 1)
 
 abbrev pub word : ℕ
 word = 1
@@ -20,8 +19,8 @@ count = 2
 abbrev pub offset : ℕ
 offset = 3
 
-abbrev pub seats : ℕ
-seats = 4
+abbrev pub processSet : ℕ
+processSet = 4
 
 -- ---- states: 01's given, any and open
 
@@ -63,8 +62,12 @@ abbrev pub places : ℕ
 places = 6
 
 -- the most tuples of a space
-abbrev pub room : ℕ
-room = 128
+abbrev pub capacity : ℕ
+capacity = 128
+
+-- the largest number of a process
+abbrev pub largestProcess : ℕ
+largestProcess = 4_294_967_295
 
 abbrev pub largestWord : ℕ
 largestWord = 255
@@ -81,7 +84,7 @@ largestOf kind =
     cond (eqb kind word) largestWord
     (cond (eqb kind count) largestCount
     (cond (eqb kind offset) largestCode
-    (cond (eqb kind seats) largestSet 0)))
+    (cond (eqb kind processSet) largestSet 0)))
 
 -- ---- blank values: every part zero
 

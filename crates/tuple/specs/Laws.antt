@@ -1,4 +1,4 @@
--- The laws of offsets and of matching, as claims over the definitions.
+-- The laws of refusals, offsets and matching, as claims over the definitions.
 use mathlib.Core.Path.{_≡_}
 use mathlib.Core.Bool.{true, false}
 use mathlib.Core.List.{List}
@@ -13,7 +13,13 @@ use Rattle.tuple.specs.declared.field.Tuple.{Tuple}
 use Rattle.tuple.specs.declared.matching.Found.the-variants.{At, Nowhere}
 use Rattle.tuple.specs.Fields.{defined, places, blankField, blankTuple}
 use Rattle.tuple.specs.Matching.{matches, oldestOf}
+use Rattle.tuple.specs.declared.refusal.Refusal.{Refusal}
+use Rattle.tuple.specs.Refusals.{numberOf, refusal}
 use Rattle.tuple.specs.Offsets.{largestCode, inRange, codeOf, offsetOf}
+
+-- each refusal is the one of its number
+abbrev pub Numbered : Type 0
+Numbered = (r : Refusal) → refusal (numberOf r) ≡ r
 
 -- the coding is one to one between the offsets in range, bottom among them, and the numbers from 0 to the largest code
 pub record OneToOne : Type 0 where

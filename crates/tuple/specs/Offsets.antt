@@ -1,15 +1,15 @@
 -- Document 01, "Bytes" and "Fields and tuples": the number that stands for an offset, over the whole numbers.
-use Prim.Native.Nat.{ℕ, suc, _+_, _*_, _/_, _%_}
+use Prim.Native.Nat.{ℕ, _+_, _*_, _/_, _%_}
 use mathlib.Core.Bool.{Bool, true, cond}
 use lib.Dec.{leb, eqb}
-use lib.IntN.{ℤ, pos, negsuc, negℤ, natAbs}
-use Rattle.tuple.specs.declared.refusal.Refusal.the-variants.{Beyond}
+use lib.IntN.{pos, negsuc, negℤ, natAbs}
 use Rattle.tuple.specs.declared.offset.Offset.{Offset}
 use Rattle.tuple.specs.declared.offset.Offset.the-variants.{Bottom, Hundredths}
 use Rattle.tuple.specs.declared.offset.Coded.{Coded}
 use Rattle.tuple.specs.declared.offset.Coded.the-variants.{Code, OutOfRange}
 use Rattle.tuple.specs.declared.offset.Decoded.{Decoded}
 use Rattle.tuple.specs.declared.offset.Decoded.the-variants.{Means, NoOffset}
+use Rattle.tuple.specs.Refusals.{refusal}
 
 -- the largest offset; the least is its negative
 abbrev pub largestOffset : ℕ
@@ -37,8 +37,8 @@ offsetOf code =
 
 -- what coding an offset answers, on every offset
 unfoldable pub codedOf : Offset → Coded
-codedOf offset = cond (inRange offset) (Code (codeOf offset)) (OutOfRange Beyond)
+codedOf offset = cond (inRange offset) (Code (codeOf offset)) (OutOfRange (refusal 3))
 
 -- what decoding a number answers, on every number
 unfoldable pub decodedOf : ℕ → Decoded
-decodedOf code = cond (leb code largestCode) (Means (offsetOf code)) (NoOffset Beyond)
+decodedOf code = cond (leb code largestCode) (Means (offsetOf code)) (NoOffset (refusal 3))

@@ -1,5 +1,7 @@
--- Document 01, "What is returned, and for what": the number of each refusal.
+-- Document 01, "What is returned, and for what": the number of each refusal, and the refusal of each number.
 use Prim.Native.Nat.{ℕ}
+use mathlib.Core.Bool.{cond}
+use lib.Dec.{eqb}
 use Rattle.tuple.specs.declared.refusal.Refusal.{Refusal}
 use Rattle.tuple.specs.declared.refusal.Refusal.the-variants.{Unsound, Cut, Beyond, Unknown, Misshapen, Stranger, Denied, Full, LongScript, NoRoom, Unfit}
 
@@ -15,3 +17,18 @@ numberOf Full = 8
 numberOf LongScript = 9
 numberOf NoRoom = 10
 numberOf Unfit = 11
+
+-- the definitions name a refusal by its number; what is no number of one is taken for the last
+abbrev pub refusal : ℕ → Refusal
+refusal number =
+    cond (eqb number 1) Unsound
+    (cond (eqb number 2) Cut
+    (cond (eqb number 3) Beyond
+    (cond (eqb number 4) Unknown
+    (cond (eqb number 5) Misshapen
+    (cond (eqb number 6) Stranger
+    (cond (eqb number 7) Denied
+    (cond (eqb number 8) Full
+    (cond (eqb number 9) LongScript
+    (cond (eqb number 10) NoRoom
+    Unfit)))))))))

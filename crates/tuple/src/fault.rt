@@ -8,7 +8,8 @@ use crate::field::FIELDS;
 use crate::field::FORMAL;
 use crate::field::Field;
 use crate::field::OUT;
-use crate::field::SET;
+use crate::field::PROCESS_SET;
+use crate::field::RDP;
 use crate::field::Tuple;
 use crate::field::WORD;
 use crate::field::largest;
@@ -63,7 +64,7 @@ fn used_fault(call: Call) -> Fault
 pub fn uses_template(code: u8) -> bool
     ensures { λ r. ⌜ r ≡ usesTemplate code ⌝ }
 {
-    code != OUT
+    if code < RDP { false } else { code <= CAS }
 }
 
 // Whether a call of this code has an entry: out and cas do.
@@ -113,7 +114,7 @@ fn field_fault(field: Field, entry: bool) -> Fault
     if field.kind < WORD {
         return Fault::Present(Refusal::Unknown);
     }
-    if SET < field.kind {
+    if PROCESS_SET < field.kind {
         return Fault::Present(Refusal::Unknown);
     }
     if FORMAL < field.state {

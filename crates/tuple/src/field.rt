@@ -2,14 +2,14 @@
 ghost use mathlib.Core.Path.{_≡_};
 ghost use Rattle.tuple.specs.Fields.{largestOf, blankField, blankTuple, blankCall};
 
-// The kinds of a field; a set is 01's seats.
+// The kinds of a field; a process set is 01's seats.
 pub const WORD: u8 = 1;
 
 pub const COUNT: u8 = 2;
 
 pub const OFFSET: u8 = 3;
 
-pub const SET: u8 = 4;
+pub const PROCESS_SET: u8 = 4;
 
 // The states of a field: 01's given, any and open.
 pub const DEFINED: u8 = 0;
@@ -37,6 +37,9 @@ pub const FIELDS: usize = 6;
 
 pub const TUPLES: usize = 128;
 
+// The largest number of a process.
+pub const LARGEST_PROCESS: u32 = 0xFFFF_FFFF;
+
 // The largest value of each kind; an offset's is its largest code.
 pub const LARGEST_WORD: u64 = 255;
 
@@ -56,10 +59,10 @@ pub struct Field {
 // A tuple: how many fields it has, and six places for them.
 pub struct Tuple {
     pub count: usize,
-    pub fields: [Field; 6],
+    pub fields: [Field; FIELDS],
 }
 
-// A call: the process that calls, the call's code, and its template and entry.
+// A call: the process (01's seat) that calls, the call's code, and its template and entry.
 pub struct Call {
     pub process: u32,
     pub code: u8,
@@ -87,7 +90,7 @@ impl Tuple {
     {
         Tuple {
             count: 0,
-            fields: [Field::blank(); 6],
+            fields: [Field::blank(); FIELDS],
         }
     }
 }
@@ -114,7 +117,7 @@ pub fn largest(kind: u8) -> u64
         WORD => LARGEST_WORD,
         COUNT => LARGEST_COUNT,
         OFFSET => LARGEST_CODE,
-        SET => LARGEST_SET,
+        PROCESS_SET => LARGEST_SET,
         _ => 0,
     }
 }

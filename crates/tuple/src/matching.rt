@@ -16,7 +16,7 @@ pub enum Found {
 }
 
 // The oldest of the first `count` tuples that matches the template.
-pub fn oldest(tuples: [Tuple; 128], count: usize, template: Tuple) -> Found
+pub fn oldest(tuples: [Tuple; TUPLES], count: usize, template: Tuple) -> Found
     ensures { λ r. ⌜ r ≡ oldestOf (take count tuples) template ⌝ }
 {
     let held = least(count, TUPLES);

@@ -1,13 +1,15 @@
-// Why a call is not obeyed, by 01's numbers.
+// Why something is refused, by 01's numbers.
 ghost use mathlib.Core.Path.{_≡_};
 ghost use Rattle.tuple.specs.Refusals.{numberOf};
 
 pub enum Refusal {
-    // 1: a configuration that is not sound, or a space or process state that is not well formed.
+    // 1: a configuration that is not sound, starting a process under a policy other than 2, or a space or process state that is
+    // not well formed.
     Unsound,
     // 2: the bytes end inside a number or record.
     Cut,
-    // 3: a number too long or not shortest, or a value beyond its kind.
+    // 3: a number too long or not shortest, a value beyond its kind, or on starting a process a round or an offset that is not
+    // allowed.
     Beyond,
     // 4: an unknown call code or head.
     Unknown,

@@ -1,3 +1,4 @@
 pub mod ReadingLaws
+pub mod RefusalLaws
 mod Steps
 pub mod WritingLaws

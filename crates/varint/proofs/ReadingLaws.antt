@@ -22,7 +22,7 @@ greatest zero = lastGroup
 greatest (suc more) = 127 + 128 * greatest more
 
 -- an answer by a test: what holds of both holds of the one picked
-pub picked : (P : Number → Type 0) (t : Bool) {a b : Number} → (t ≡ true → P a) → (t ≡ false → P b) → P (cond t a b)
+pub picked : {X : Type 0} (P : X → Type 0) (t : Bool) {a b : X} → (t ≡ true → P a) → (t ≡ false → P b) → P (cond t a b)
 picked P true f g = f refl
 picked P false f g = g refl
 

@@ -2,7 +2,7 @@
 ghost use mathlib.Core.Path.{_≡_};
 ghost use Prim.Native.Nat.{_+_, _≤_};
 ghost use lib.ListN.{length, drop};
-ghost use Rattle.varint.specs.Reading.{numberAt, numberFrom};
+ghost use Rattle.varint.specs.Reading.{further, numberAt, numberFrom};
 ghost use Rattle.varint.specs.Writing.{bytesOf, widthOf, stored, writtenAt, leftAt};
 
 // The most groups that a number has.
@@ -44,7 +44,7 @@ pub fn read(s: &[u8], at: usize) -> Number
 // The number at a place of s whose first group at most `more` groups may follow: the low seven bits of its first byte, plus
 // 128 times the number that follows if the byte's top bit is set.
 fn groups_from(s: &[u8], at: usize, more: usize) -> Number
-    requires { ⌜ more ≤ 4 ⌝ }
+    requires { ⌜ more ≤ further ⌝ }
     ensures { λ r. ⌜ r ≡ numberFrom more (drop at (now (s .entry))) at ⌝ }
 {
     if s.len() <= at {

@@ -1,4 +1,4 @@
--- `tuple::fault::uses_entry` meets its contract: its tests are the definition's.
+-- `tuple::uses_entry` meets its contract: its tests are the definition's.
 use borrow.Author.Tests.{eq-eqb, ne-eqb}
 use Rattle.tuple.specs.Faults.{usesEntry}
 use Rattle.tuple.proofs.fault.uses_entry.Statement.{statement}

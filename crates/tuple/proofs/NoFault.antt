@@ -2,22 +2,25 @@
 use mathlib.Core.Path.{_≡_, refl}
 use Prim.Native.Nat.{ℕ, _≤_}
 use native.Mathlib.Omega.{arith}
-use mathlib.Core.Bool.{Bool, true, false, not, _&&_, _||_, or-false}
+use mathlib.Core.Bool.{Bool, true, false, not, _&&_, _||_, or-false, and-eq-true-iff}
 use mathlib.Core.List.{List, _∷_}
 use lib.ListN.{take}
-use lib.Dec.{leb, eqb}
+use lib.Dec.{leb}
 use borrow.Author.Tests.{leb-true, not-true}
-use Rattle.record.proofs.Tests.{picked, both, between}
 use Rattle.tuple.specs.declared.fault.Fault.{Fault}
 use Rattle.tuple.specs.declared.fault.Fault.the-variants.{Absent, Present}
 use Rattle.tuple.specs.declared.field.Field.{Field}
 use Rattle.tuple.specs.declared.field.Tuple.{Tuple}
 use Rattle.tuple.specs.declared.field.Call.{Call}
 use Rattle.tuple.specs.declared.refusal.Refusal.{Refusal}
 use Rattle.tuple.specs.declared.refusal.Refusal.the-variants.{Beyond, Unknown, Misshapen}
-use Rattle.tuple.specs.Fields.{word, count, offset, seats, formal, out, cas, places, largestOf}
+use Rattle.tuple.specs.Fields.{word, processSet, formal, out, cas, places, largestOf}
 use Rattle.tuple.specs.Faults.{unless, first, knownHead, isDefined, fieldFault, fieldsFault, tupleFault, partFault, usesTemplate, usesEntry, usedFault, restBlank, callFault}
-use Rattle.varint.specs.Reading.{largest}
+
+-- ---- tests
+
+pub between : (least n most : ℕ) → leb least n && leb n most ≡ true → (least ≤ n) × (n ≤ most)
+between least n most h = let tests = and-eq-true-iff (leb least n) (leb n most) .0 h in (leb-true least n (tests .0), leb-true n most (tests .1))
 
 -- ---- faults
 
@@ -31,23 +34,11 @@ first-absent (Present refusal) b h = let z : _≡_ {A = ℕ} 0 1 = cc in absurd 
 
 -- ---- a field
 
-pub known-head : (field : Field) → knownHead field ≡ true → (field .kind ≤ seats) × (field .state ≤ formal)
+pub known-head : (field : Field) → knownHead field ≡ true → (field .kind ≤ processSet) × (field .state ≤ formal)
 unfolding knownHead
 known-head field h =
-    let tests = both (leb word (field .kind) && leb (field .kind) seats) (leb (field .state) formal) h in
-    (between word (field .kind) seats (tests .0) .1, leb-true (field .state) formal (tests .1))
-
--- every kind's values are numbers that varint holds
-pub kind-most : (kind : ℕ) → largestOf kind ≤ largest
-unfolding largestOf
-kind-most kind =
-    picked Most (eqb kind word) (λ e. omega arith)
-    (λ e. picked Most (eqb kind count) (λ e. omega arith)
-    (λ e. picked Most (eqb kind offset) (λ e. omega arith)
-    (λ e. picked Most (eqb kind seats) (λ e. omega arith) (λ e. omega arith))))
-  where
-    Most : ℕ → Type 0
-    Most n = n ≤ largest
+    let tests = and-eq-true-iff (leb word (field .kind) && leb (field .kind) processSet) (leb (field .state) formal) .0 h in
+    (between word (field .kind) processSet (tests .0) .1, leb-true (field .state) formal (tests .1))
 
 pub record SoundField (entry : Bool) (field : Field) : Type 0 where
   pub known : knownHead field ≡ true
@@ -108,7 +99,7 @@ call-sound call h =
     let used = unless-absent (leb out (call .code) && leb (call .code) cas) Unknown _ (used-rest .0) in
     let faults = first-absent (partFault (call .template) template false) (partFault (call .entry) entry true) (used .1) in
     let rest = unless-absent (restBlank (call .template) template && restBlank (call .entry) entry) Misshapen Absent (used-rest .1) in
-    let rests = both (restBlank (call .template) template) (restBlank (call .entry) entry) (rest .0) in
+    let rests = and-eq-true-iff (restBlank (call .template) template) (restBlank (call .entry) entry) .0 (rest .0) in
     let code = between out (call .code) cas (used .0) in
     record {
       low = code .0;

@@ -12,8 +12,8 @@ use Rattle.varint.specs.Writing.{groupsOf, bytesOf, writtenAt, leftAt}
 
 pub edge-values : EdgeValues
 unfolding seen stated decodedOf largestOf
-  joined numberFrom numberAt groupsOf bytesOf writtenAt leftAt
-  headOf readNumber valueAt fieldAt fieldsAt tupleAt partAt partsAt bodyAt callAt
-  fieldBytes fieldsBytes tupleBytes partBytes callBytes writtenOf leftOf
-  knownHead fieldFault fieldsFault tupleFault partFault usesTemplate usesEntry usedFault isBlank placeBlank restFrom restBlank callFault
+    joined numberFrom numberAt groupsOf bytesOf writtenAt leftAt
+    headOf readNumber valueAt fieldAt fieldsAt tupleAt partAt partsAt bodyAt callAt
+    fieldBytes fieldsBytes tupleBytes partBytes callBytes writtenOf leftOf
+    knownHead fieldFault fieldsFault tupleFault partFault usesTemplate usesEntry usedFault isBlank placeBlank restFrom restBlank callFault
 edge-values = refl

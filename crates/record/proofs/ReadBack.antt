@@ -170,11 +170,12 @@ read-back call s rest at typed h e =
 -- it took the call: it has no fault, and the length is the record's
 took : (call : Call) (room n : ℕ) (fault : Fault) → roomStep call room fault ≡ Length n → (fault ≡ Absent) × (length (callBytes call) ≡ n)
 took call room n (Present why) e = let z : _≡_ {A = ℕ} 0 1 = cc in absurd (omega arith)
-took call room n Absent e =
-    ( refl
-    , cases (leb (length (callBytes call)) room)
-    (λ fits. let whole : _≡_ {A = Recorded} (Length (length (callBytes call))) (Length n) = rw fits at e in cc)
-    (λ full. let none : _≡_ {A = Recorded} (Unwritten (refusal 10)) (Length n) = rw full at e in let z : _≡_ {A = ℕ} 0 1 = cc in absurd (omega arith)))
+took call room n Absent e = (
+  refl,
+  cases (leb (length (callBytes call)) room)
+      (λ fits. let whole : _≡_ {A = Recorded} (Length (length (callBytes call))) (Length n) = rw fits at e in cc)
+      (λ full. let none : _≡_ {A = Recorded} (Unwritten (refusal 10)) (Length n) = rw full at e in let z : _≡_ {A = ℕ} 0 1 = cc in absurd (omega arith)),
+)
 
 pub written-back : WrittenBack
 unfolding writtenOf leftOf

@@ -38,12 +38,13 @@ sets-append (a ∷ t) u l i = sets-append t u (set l i a) (suc i) ∙ ap (λ (k 
 -- two runs of stores, one behind the other, are one
 pub wrote-then : (before : List ℕ) (at : ℕ) (t u : List ℕ) {middle next : ℕ} {between after : List ℕ} → Wrote before at t middle between → Wrote between middle u next after
     → Wrote before at (t ++ u) next after
-wrote-then before at t u {middle} {next} {between} first second =
-    ( omega (arith, length-append t u, first .0, second .0)
-    , second .1
-    ∙ ap (λ (l : List ℕ). sets l middle u) (first .1)
-    ∙ ap (λ (k : ℕ). sets (sets before at t) k u) (first .0)
-    ∙ sym (sets-append t u before at))
+wrote-then before at t u {middle} {next} {between} first second = (
+  omega (arith, length-append t u, first .0, second .0),
+  second .1
+      ∙ ap (λ (l : List ℕ). sets l middle u) (first .1)
+      ∙ ap (λ (k : ℕ). sets (sets before at t) k u) (first .0)
+      ∙ sym (sets-append t u before at),
+)
 
 pub wrote-length : (before : List ℕ) (at : ℕ) (t : List ℕ) {next : ℕ} {after : List ℕ} → Wrote before at t next after → length after ≡ length before
 wrote-length before at t wrote = ap length (wrote .1) ∙ length-sets before at t
@@ -121,9 +122,9 @@ part-writable : (used entry : Bool) (tuple : Tuple) → SoundPart used entry tup
 unfolding partFault
 part-writable true entry tuple sound e =
     let counted = tuple-sound entry tuple (sound .fault) in
-    record
-    { few = counted .few
-    ; each = λ i h. rw (getD-take (tuple .count) (tuple .fields) i blankField h) at (fields-writable entry (take (tuple .count) (tuple .fields)) (counted .fields) i)
+    record {
+      few = counted .few;
+      each = λ i h. rw (getD-take (tuple .count) (tuple .fields) i blankField h) at (fields-writable entry (take (tuple .count) (tuple .fields)) (counted .fields) i);
     }
 part-writable false entry tuple sound e = absurd (false≢true e)
 
@@ -142,15 +143,17 @@ module _ (call : Call) (buffer : List ℕ) where
   pub written-full : callFault call ≡ Absent → length buffer < length (callBytes call)
       → (Unwritten NoRoom ≡ writtenOf call (length buffer)) × (buffer ≡ leftOf call buffer)
   unfolding writtenOf leftOf
-  written-full e full =
-      ( rw (e, lt-leb (length (callBytes call)) (length buffer) full)
-      , rw (e, lt-leb (length (callBytes call)) (length buffer) full))
+  written-full e full = (
+    rw (e, lt-leb (length (callBytes call)) (length buffer) full),
+    rw (e, lt-leb (length (callBytes call)) (length buffer) full),
+  )
 
   pub written-whole : callFault call ≡ Absent → length (callBytes call) ≤ length buffer
       → (Length (length (callBytes call)) ≡ writtenOf call (length buffer)) × (sets buffer 0 (callBytes call) ≡ leftOf call buffer)
   unfolding writtenOf leftOf
   written-whole e fits =
-      let none : 0 + length (callBytes call) ≡ length (callBytes call) = omega arith in
-      ( rw (e, le-leb (length (callBytes call)) (length buffer) fits)
-      , rw (e, le-leb (length (callBytes call)) (length buffer) fits)
-      (sets-eq (callBytes call) buffer 0 (omega arith) ∙ ap (λ (n : ℕ). callBytes call ++ drop n buffer) none))
+      let none : 0 + length (callBytes call) ≡ length (callBytes call) = omega arith in (
+        rw (e, le-leb (length (callBytes call)) (length buffer) fits),
+        rw (e, le-leb (length (callBytes call)) (length buffer) fits)
+            (sets-eq (callBytes call) buffer 0 (omega arith) ∙ ap (λ (n : ℕ). callBytes call ++ drop n buffer) none),
+      )

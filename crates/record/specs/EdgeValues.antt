@@ -83,11 +83,11 @@ storedLength NoRoom = 0
 
 abbrev pub numberSeen : Number → Seen
 numberSeen (Value value next) =
-    record
-    { meaning = number value
-    ; taken = next
-    ; answered = storedLength (writtenAt next 0 value)
-    ; written = leftAt (replicate next 0) 0 value
+    record {
+      meaning = number value;
+      taken = next;
+      answered = storedLength (writtenAt next 0 value);
+      written = leftAt (replicate next 0) 0 value;
     }
 numberSeen Cut = unseen (refused (numberRefusal Cut))
 numberSeen Overlong = unseen (refused (numberRefusal Overlong))
@@ -112,11 +112,11 @@ recordedLength (Unwritten why) = 0
 
 abbrev pub callSeen : List ℕ → Call → Next → Seen
 callSeen bytes call (At cursor) =
-    record
-    { meaning = offsetMeaning (decodedOf (getD (call .entry .fields) 0 blankField .value))
-    ; taken = cursor .at
-    ; answered = recordedLength (writtenOf call (cursor .at))
-    ; written = leftOf call (replicate (cursor .at) 0)
+    record {
+      meaning = offsetMeaning (decodedOf (getD (call .entry .fields) 0 blankField .value));
+      taken = cursor .at;
+      answered = recordedLength (writtenOf call (cursor .at));
+      written = leftOf call (replicate (cursor .at) 0);
     }
 callSeen bytes call (Refused why) = unseen (refusedMeaning (numberAt bytes 0) why)
 

@@ -22,19 +22,19 @@ pub enum Recorded {
     Unwritten(Refusal),
 }
 
-// Puts the record of a call at the start of out.
-pub fn write(call: Call, out: &mut [u8]) -> Recorded
-    ensures { λ r. ⌜ r ≡ writtenOf call (length (now (out .entry))) ⌝ }
-    ensures { λ _. ⌜ now (out .exit) ≡ leftOf call (now (out .entry)) ⌝ }
+// Puts the record of a call at the start of buffer.
+pub fn write(call: Call, buffer: &mut [u8]) -> Recorded
+    ensures { λ r. ⌜ r ≡ writtenOf call (length (now (buffer .entry))) ⌝ }
+    ensures { λ _. ⌜ now (buffer .exit) ≡ leftOf call (now (buffer .entry)) ⌝ }
 {
     if let Fault::Present(refusal) = call.fault() {
         return Recorded::Unwritten(refusal);
     }
     let n = call_width(call);
-    if out.len() < n {
+    if buffer.len() < n {
         return Recorded::Unwritten(Refusal::NoRoom);
     }
-    put_call(out, call);
+    put_call(buffer, call);
     Recorded::Length(n)
 }
 
@@ -88,55 +88,59 @@ fn field_width(field: Field) -> usize
 
 // ---- the bytes
 
-fn put_call(out: &mut [u8], call: Call)
+fn put_call(buffer: &mut [u8], call: Call)
     requires { ⌜ WritableCall call ⌝ }
-    requires { ⌜ length (callBytes call) ≤ length (now out) ⌝ }
-    ensures { λ _. ⌜ now (out .exit) ≡ sets (now (out .entry)) 0 (callBytes call) ⌝ }
+    requires { ⌜ length (callBytes call) ≤ length (now buffer) ⌝ }
+    ensures { λ _. ⌜ now (buffer .exit) ≡ sets (now (buffer .entry)) 0 (callBytes call) ⌝ }
 {
     let code = call.code;
     let template = call.template;
     let entry = call.entry;
-    let after_process = put_number(out, 0, call.process as u64);
-    let after_code = put_number(out, after_process, code as u64);
-    let after_template = put_part(out, after_code, template, tuple::uses_template(code));
-    put_part(out, after_template, entry, tuple::uses_entry(code));
+    let after_process = put_number(buffer, 0, call.process as u64);
+    let after_code = put_number(buffer, after_process, code as u64);
+    let after_template = put_part(buffer, after_code, template, tuple::uses_template(code));
+    put_part(buffer, after_template, entry, tuple::uses_entry(code));
 }
 
-fn put_part(out: &mut [u8], at: usize, tuple: Tuple, used: bool) -> usize
+fn put_part(buffer: &mut [u8], at: usize, tuple: Tuple, used: bool) -> usize
     requires { ⌜ WritablePart used tuple ⌝ }
-    requires { ⌜ at + length (partBytes used tuple) ≤ length (now out) ⌝ }
+    requires { ⌜ at + length (partBytes used tuple) ≤ length (now buffer) ⌝ }
     ensures { λ r. ⌜ r ≡ at + length (partBytes used tuple) ⌝ }
-    ensures { λ _. ⌜ now (out .exit) ≡ sets (now (out .entry)) at (partBytes used tuple) ⌝ }
+    ensures { λ _. ⌜ now (buffer .exit) ≡ sets (now (buffer .entry)) at (partBytes used tuple) ⌝ }
 {
-    if used { put_tuple(out, at, tuple) } else { at }
+    if used {
+        put_tuple(buffer, at, tuple)
+    } else {
+        at
+    }
 }
 
-fn put_tuple(out: &mut [u8], at: usize, tuple: Tuple) -> usize
+fn put_tuple(buffer: &mut [u8], at: usize, tuple: Tuple) -> usize
     requires { ⌜ Writable tuple ⌝ }
-    requires { ⌜ at + length (tupleBytes tuple) ≤ length (now out) ⌝ }
+    requires { ⌜ at + length (tupleBytes tuple) ≤ length (now buffer) ⌝ }
     ensures { λ r. ⌜ r ≡ at + length (tupleBytes tuple) ⌝ }
-    ensures { λ _. ⌜ now (out .exit) ≡ sets (now (out .entry)) at (tupleBytes tuple) ⌝ }
+    ensures { λ _. ⌜ now (buffer .exit) ≡ sets (now (buffer .entry)) at (tupleBytes tuple) ⌝ }
 {
     let count = tuple.count;
-    let mut place = put_number(out, at, count as u64);
+    let mut place = put_number(buffer, at, count as u64);
     let mut i = 0;
     while i < count {
         let field = tuple.fields[i];
-        place = put_field(out, place, field);
+        place = put_field(buffer, place, field);
         i += 1;
     }
     place
 }
 
-fn put_field(out: &mut [u8], at: usize, field: Field) -> usize
+fn put_field(buffer: &mut [u8], at: usize, field: Field) -> usize
     requires { ⌜ WritableField field ⌝ }
-    requires { ⌜ at + length (fieldBytes field) ≤ length (now out) ⌝ }
+    requires { ⌜ at + length (fieldBytes field) ≤ length (now buffer) ⌝ }
     ensures { λ r. ⌜ r ≡ at + length (fieldBytes field) ⌝ }
-    ensures { λ _. ⌜ now (out .exit) ≡ sets (now (out .entry)) at (fieldBytes field) ⌝ }
+    ensures { λ _. ⌜ now (buffer .exit) ≡ sets (now (buffer .entry)) at (fieldBytes field) ⌝ }
 {
-    let place = put_number(out, at, head_number(field));
+    let place = put_number(buffer, at, head_number(field));
     if field.state == DEFINED {
-        put_number(out, place, field.value)
+        put_number(buffer, place, field.value)
     } else {
         place
     }
@@ -149,13 +153,13 @@ fn head_number(field: Field) -> u64
     4 * (field.kind as u64) + field.state as u64
 }
 
-fn put_number(out: &mut [u8], at: usize, value: u64) -> usize
+fn put_number(buffer: &mut [u8], at: usize, value: u64) -> usize
     requires { ⌜ value ≤ largest ⌝ }
-    requires { ⌜ at + widthOf value ≤ length (now out) ⌝ }
+    requires { ⌜ at + widthOf value ≤ length (now buffer) ⌝ }
     ensures { λ r. ⌜ r ≡ at + widthOf value ⌝ }
-    ensures { λ _. ⌜ now (out .exit) ≡ sets (now (out .entry)) at (bytesOf value) ⌝ }
+    ensures { λ _. ⌜ now (buffer .exit) ≡ sets (now (buffer .entry)) at (bytesOf value) ⌝ }
 {
-    match varint::write(out, at, value) {
+    match varint::write(buffer, at, value) {
         Written::Next(next) => next,
         Written::Beyond => at,
         Written::NoRoom => at,

@@ -87,38 +87,38 @@ pub fn width(value: u64) -> usize
     n
 }
 
-// Puts the shortest form of a number at a place of out.
-pub fn write(out: &mut [u8], at: usize, value: u64) -> Written
-    ensures { λ r. ⌜ r ≡ writtenAt (length (now (out .entry))) at value ⌝ }
-    ensures { λ _. ⌜ now (out .exit) ≡ leftAt (now (out .entry)) at value ⌝ }
+// Puts the shortest form of a number at a place of buffer.
+pub fn write(buffer: &mut [u8], at: usize, value: u64) -> Written
+    ensures { λ r. ⌜ r ≡ writtenAt (length (now (buffer .entry))) at value ⌝ }
+    ensures { λ _. ⌜ now (buffer .exit) ≡ leftAt (now (buffer .entry)) at value ⌝ }
 {
     if LARGEST < value {
         return Written::Beyond;
     }
     let n = width(value);
-    if out.len() < n {
+    if buffer.len() < n {
         return Written::NoRoom;
     }
-    if out.len() - n < at {
+    if buffer.len() - n < at {
         return Written::NoRoom;
     }
-    put(out, at, value);
+    put(buffer, at, value);
     Written::Next(at + n)
 }
 
-// Puts the shortest form of a number at a place of out that has room for it.
-fn put(out: &mut [u8], at: usize, value: u64)
-    requires { ⌜ at + widthOf value ≤ length (now out) ⌝ }
-    ensures { λ _. ⌜ now (out .exit) ≡ stored (now (out .entry)) at (bytesOf value) ⌝ }
+// Puts the shortest form of a number at a place of buffer that has room for it.
+fn put(buffer: &mut [u8], at: usize, value: u64)
+    requires { ⌜ at + widthOf value ≤ length (now buffer) ⌝ }
+    ensures { λ _. ⌜ now (buffer .exit) ≡ stored (now (buffer .entry)) at (bytesOf value) ⌝ }
 {
     let mut rest = value;
     let mut place = at;
     while 128 <= rest {
-        out[place] = (rest % 128 + 128) as u8;
+        buffer[place] = (rest % 128 + 128) as u8;
         rest /= 128;
         place += 1;
     }
-    out[place] = rest as u8;
+    buffer[place] = rest as u8;
 }
 
 fn wide(byte: u8) -> u64

@@ -14,14 +14,14 @@ use Rattle.varint.proofs.put.Statement.{statement}
 use Rattle.varint.proofs.put.Tie as tie
 
 abbrev Inv-loop : tie.InvT-loop
-Inv-loop out₀ at value rest₀ place₀ out rest place =
-    (sets out place (bytesOf rest) ≡ sets out₀ at (bytesOf value))
+Inv-loop buffer₀ at value rest₀ place₀ buffer rest place =
+    (sets buffer place (bytesOf rest) ≡ sets buffer₀ at (bytesOf value))
     × (place + widthOf rest ≡ at + widthOf value)
-    × (length out ≡ length out₀)
+    × (length buffer ≡ length buffer₀)
     × (rest ≤ value)
 
 abbrev μ-loop : tie.MeasureT-loop
-μ-loop out₀ at value rest₀ place₀ out rest place = rest
+μ-loop buffer₀ at value rest₀ place₀ buffer rest place = rest
 
 -- in a turn, and behind the loop: how the bytes of the rest begin
 step : (c : tie.In-loop Inv-loop μ-loop) → bytesOf (c .before .loop .rest) ≡ (c .before .loop .rest % 128 + 128) ∷ bytesOf (c .before .loop .rest / 128)
@@ -33,14 +33,14 @@ last c = bytes-last (c .before .loop .rest) (c .loop-test .left)
 loop-holds : tie.Need-loop-holds Inv-loop μ-loop
 loop-holds c = (refl, refl, refl, omega arith)
 
-add-out : tie.Need-add-out Inv-loop μ-loop
-add-out c = omega arith
+add-buffer : tie.Need-add-buffer Inv-loop μ-loop
+add-buffer c = omega arith
 
-cast-out : tie.Need-cast-out Inv-loop μ-loop
-cast-out c = omega arith
+cast-buffer : tie.Need-cast-buffer Inv-loop μ-loop
+cast-buffer c = omega arith
 
-slice-write-out : tie.Need-slice-write-out Inv-loop μ-loop
-slice-write-out c = omega (arith, ap length (step c), width-least (c .before .loop .rest / 128))
+slice-write-buffer : tie.Need-slice-write-buffer Inv-loop μ-loop
+slice-write-buffer c = omega (arith, ap length (step c), width-least (c .before .loop .rest / 128))
 
 add-place : tie.Need-add-place Inv-loop μ-loop
 add-place c = omega (arith, ap length (step c), width-least (c .before .loop .rest / 128))
@@ -51,19 +51,19 @@ loop-less c = omega arith
 loop-again : tie.Need-loop-again Inv-loop μ-loop
 loop-again c =
     let l = c .before .loop in (
-      ap (λ (k : ℕ). sets (set (l .out) (l .place) (l .rest % 128 + 128)) k (bytesOf (l .rest / 128))) (add-one (l .place))
-          ∙ sym (ap (sets (l .out) (l .place)) (step c))
+      ap (λ (k : ℕ). sets (set (l .buffer) (l .place) (l .rest % 128 + 128)) k (bytesOf (l .rest / 128))) (add-one (l .place))
+          ∙ sym (ap (sets (l .buffer) (l .place)) (step c))
           ∙ l .inv .0,
       omega (arith, ap length (step c)),
-      length-set (l .out) (l .place) (l .rest % 128 + 128) ∙ l .inv .2,
+      length-set (l .buffer) (l .place) (l .rest % 128 + 128) ∙ l .inv .2,
       omega arith,
     )
 
-cast-out-2 : tie.Need-cast-out-2 Inv-loop μ-loop
-cast-out-2 c = omega arith
+cast-buffer-2 : tie.Need-cast-buffer-2 Inv-loop μ-loop
+cast-buffer-2 c = omega arith
 
-slice-write-out-2 : tie.Need-slice-write-out-2 Inv-loop μ-loop
-slice-write-out-2 c = omega (arith, ap length (last c))
+slice-write-buffer-2 : tie.Need-slice-write-buffer-2 Inv-loop μ-loop
+slice-write-buffer-2 c = omega (arith, ap length (last c))
 
 same-length : tie.Need-same-length Inv-loop μ-loop
 same-length c = simp length-set (c .before .loop .inv .2)
@@ -71,9 +71,9 @@ same-length c = simp length-set (c .before .loop .inv .2)
 returns : tie.Need-returns Inv-loop μ-loop
 returns c =
     let a = c .before .before .args in
-    sym (ap (sets (c .before .loop .out) (c .before .loop .place)) (last c))
+    sym (ap (sets (c .before .loop .buffer) (c .before .loop .place)) (last c))
     ∙ c .before .loop .inv .0
-    ∙ sets-eq (bytesOf (a .value)) (a .out .now) (a .at) (c .before .before .pre)
+    ∙ sets-eq (bytesOf (a .value)) (a .buffer .now) (a .at) (c .before .before .pre)
 
 pub put-spec : {M : Type 1} → statement M
 put-spec =
@@ -82,13 +82,13 @@ put-spec =
     Inv-loop
     μ-loop
     loop-holds
-    add-out
-    cast-out
-    slice-write-out
+    add-buffer
+    cast-buffer
+    slice-write-buffer
     add-place
     loop-less
     loop-again
-    cast-out-2
-    slice-write-out-2
+    cast-buffer-2
+    slice-write-buffer-2
     same-length
     returns)

@@ -11,7 +11,7 @@ use Rattle.varint.proofs.write.Tie as tie
 returns : tie.Need-returns
 returns c =
     let a = c .before .before .args in
-    written-beyond (a .out .now) (a .at) (a .value) (c .if1 .taken)
+    written-beyond (a .buffer .now) (a .at) (a .value) (c .if1 .taken)
 
 width-requires : tie.Need-width-requires
 width-requires c κs = search needs
@@ -19,7 +19,7 @@ width-requires c κs = search needs
 returns-2 : tie.Need-returns-2
 returns-2 c =
     let a = c .before .before .before .before .args in
-    written-full (a .out .now) (a .at) (a .value) (c .before .before .if1 .left) (omega arith)
+    written-full (a .buffer .now) (a .at) (a .value) (c .before .before .if1 .left) (omega arith)
 
 sub-if3 : tie.Need-sub-if3
 sub-if3 c = search needs
@@ -27,7 +27,7 @@ sub-if3 c = search needs
 returns-3 : tie.Need-returns-3
 returns-3 c =
     let a = c .before .before .before .before .before .args in
-    written-full (a .out .now) (a .at) (a .value) (c .before .before .before .if1 .left) (omega arith)
+    written-full (a .buffer .now) (a .at) (a .value) (c .before .before .before .if1 .left) (omega arith)
 
 put-requires : tie.Need-put-requires
 put-requires c κs = omega arith
@@ -43,7 +43,7 @@ returns-4 c =
     let p = c .before .before in
     let w = p .before .before .before .before in
     let a = w .before .before .before .args in
-    let next = written-next (a .out .now) (a .at) (a .value) (w .before .if1 .left) (omega arith) in
+    let next = written-next (a .buffer .now) (a .at) (a .value) (w .before .if1 .left) (omega arith) in
     (ap (λ (n : ℕ). Next (a .at + n)) (w .width .ensures) ∙ next .0, p .put .ensures ∙ next .1)
 
 pub write-spec : {M : Type 1} → statement M

@@ -30,9 +30,10 @@ parts : (c : tie.After-part-width2)
     → (c .before .before .part-width .result ≤ 130) × (c .part-width2 .result ≤ 130)
 parts c =
     let s = c .before .before .before .before .before .before .before .before .before in
-    let call = s .args .call in
-    ( omega (arith, template (c .before .before), part-length (usesTemplate (call .code)) (call .template) (s .pre .template))
-    , omega (arith, entry c, part-length (usesEntry (call .code)) (call .entry) (s .pre .entry)))
+    let call = s .args .call in (
+      omega (arith, template (c .before .before), part-length (usesTemplate (call .code)) (call .template) (s .pre .template)),
+      omega (arith, entry c, part-length (usesEntry (call .code)) (call .entry) (s .pre .entry)),
+    )
 
 numbers : (c : tie.After-part-width2) → (c .before .before .before .before .before .width .result ≤ 10) × (c .before .before .before .before .width2 .result ≤ 10)
 numbers c =

@@ -35,13 +35,14 @@ entry c =
 
 -- where the template begins, and how long the buffer is there
 behind-code : (c : tie.After-put-number2) → let s = c .before .before .before .before .before .before .before .before .before .before in
-    (c .put-number2 .result ≡ widthOf (s .args .call .process) + widthOf (s .args .call .code)) × (length (c .put-number2 .last .0) ≡ length (s .args .out .now))
+    (c .put-number2 .result ≡ widthOf (s .args .call .process) + widthOf (s .args .call .code)) × (length (c .put-number2 .last .0) ≡ length (s .args .buffer .now))
 behind-code c =
     let n = c .before .before .before .before in
-    let s = n .before .before .before .before .before .before in
-    ( omega (arith, n .put-number .ensures .0, c .put-number2 .ensures .0)
-    , wrote-length (n .put-number .last .0) (n .put-number .result) (bytesOf (s .args .call .code)) (c .put-number2 .ensures)
-    ∙ wrote-length (s .args .out .now) 0 (bytesOf (s .args .call .process)) (n .put-number .ensures))
+    let s = n .before .before .before .before .before .before in (
+      omega (arith, n .put-number .ensures .0, c .put-number2 .ensures .0),
+      wrote-length (n .put-number .last .0) (n .put-number .result) (bytesOf (s .args .call .code)) (c .put-number2 .ensures)
+          ∙ wrote-length (s .args .buffer .now) 0 (bytesOf (s .args .call .process)) (n .put-number .ensures),
+    )
 
 put-number-requires : tie.Need-put-number-requires
 put-number-requires c κs =
@@ -57,7 +58,7 @@ put-number-requires-2 c κs =
     let n = c .before .before .before in
     let s = n .before .before .before .before .before .before in
     let call = s .args .call in
-    (omega arith, omega (arith, n .put-number .ensures .0, wrote-length (s .args .out .now) 0 (bytesOf (call .process)) (n .put-number .ensures), call-length call, s .pre .1))
+    (omega arith, omega (arith, n .put-number .ensures .0, wrote-length (s .args .buffer .now) 0 (bytesOf (call .process)) (n .put-number .ensures), call-length call, s .pre .1))
 
 uses-template-requires : tie.Need-uses-template-requires
 uses-template-requires c κs = search needs
@@ -66,14 +67,16 @@ put-part-requires : tie.Need-put-part-requires
 put-part-requires c κs =
     let n = c .before .before .before .before in
     let s = n .before .before .before .before .before .before .before .before .before .before in
-    let call = s .args .call in
-    ( (λ used. s .pre .0 .template (sym (c .uses-template .ensures) ∙ used))
-    , omega
-    ( arith
-    , ap (λ (used : Bool). length (partBytes used (call .template))) (c .uses-template .ensures)
-    , behind-code n
-    , call-length call
-    , s .pre .1))
+    let call = s .args .call in (
+      (λ used. s .pre .0 .template (sym (c .uses-template .ensures) ∙ used)),
+      omega (
+        arith,
+        ap (λ (used : Bool). length (partBytes used (call .template))) (c .uses-template .ensures),
+        behind-code n,
+        call-length call,
+        s .pre .1,
+      ),
+    )
 
 uses-entry-requires : tie.Need-uses-entry-requires
 uses-entry-requires c κs = search needs
@@ -83,16 +86,18 @@ put-part-requires-2 c κs =
     let p = c .before .before .before .before in
     let n = p .before .before .before .before .before in
     let s = n .before .before .before .before .before .before .before .before .before .before in
-    let call = s .args .call in
-    ( (λ used. s .pre .0 .entry (sym (c .uses-entry .ensures) ∙ used))
-    , omega
-    ( arith
-    , ap (λ (used : Bool). length (partBytes used (call .entry))) (c .uses-entry .ensures)
-    , template p .0
-    , wrote-length (n .put-number2 .last .0) (n .put-number2 .result) (partBytes (usesTemplate (call .code)) (call .template)) (template p)
-    , behind-code n
-    , call-length call
-    , s .pre .1))
+    let call = s .args .call in (
+      (λ used. s .pre .0 .entry (sym (c .uses-entry .ensures) ∙ used)),
+      omega (
+        arith,
+        ap (λ (used : Bool). length (partBytes used (call .entry))) (c .uses-entry .ensures),
+        template p .0,
+        wrote-length (n .put-number2 .last .0) (n .put-number2 .result) (partBytes (usesTemplate (call .code)) (call .template)) (template p),
+        behind-code n,
+        call-length call,
+        s .pre .1,
+      ),
+    )
 
 same-length : tie.Need-same-length
 same-length c = search needs
@@ -108,7 +113,7 @@ returns c =
     let call = s .args .call in
     let t = partBytes (usesTemplate (call .code)) (call .template) in
     let e = partBytes (usesEntry (call .code)) (call .entry) in
-    wrote-then (s .args .out .now) 0 (bytesOf (call .process)) (bytesOf (call .code) ++ (t ++ e)) (n .put-number .ensures)
+    wrote-then (s .args .buffer .now) 0 (bytesOf (call .process)) (bytesOf (call .code) ++ (t ++ e)) (n .put-number .ensures)
     (wrote-then (n .put-number .last .0) (n .put-number .result) (bytesOf (call .code)) (t ++ e) (m .put-number2 .ensures)
     (wrote-then (m .put-number2 .last .0) (m .put-number2 .result) t e (template p) (entry q))) .1
 

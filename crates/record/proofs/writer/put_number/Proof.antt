@@ -15,12 +15,12 @@ write-requires c κs = search needs
 
 -- the number is held and has room, so it is written
 written : (c : tie.After-write) → let a = c .before .before .before .args in
-    (c .write .result ≡ Next (a .at + widthOf (a .value))) × (c .write .last .0 ≡ sets (a .out .now) (a .at) (bytesOf (a .value)))
+    (c .write .result ≡ Next (a .at + widthOf (a .value))) × (c .write .last .0 ≡ sets (a .buffer .now) (a .at) (bytesOf (a .value)))
 written c =
     let s = c .before .before .before in
     let a = s .args in
-    let next = written-next (a .out .now) (a .at) (a .value) (s .pre .0) (s .pre .1) in
-    (c .write .ensures .0 ∙ sym (next .0), c .write .ensures .1 ∙ sym (next .1) ∙ sym (sets-eq (bytesOf (a .value)) (a .out .now) (a .at) (s .pre .1)))
+    let next = written-next (a .buffer .now) (a .at) (a .value) (s .pre .0) (s .pre .1) in
+    (c .write .ensures .0 ∙ sym (next .0), c .write .ensures .1 ∙ sym (next .1) ∙ sym (sets-eq (bytesOf (a .value)) (a .buffer .now) (a .at) (s .pre .1)))
 
 enum-known-next : tie.Need-enum-known-next
 enum-known-next c = search needs

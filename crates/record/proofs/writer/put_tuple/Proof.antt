@@ -15,14 +15,14 @@ use Rattle.record.proofs.writer.put_tuple.Statement.{statement}
 use Rattle.record.proofs.writer.put_tuple.Tie as tie
 
 abbrev Inv-loop : tie.InvT-loop
-Inv-loop out₀ at tuple count place₀ i₀ out place i =
+Inv-loop buffer₀ at tuple count place₀ i₀ buffer place i =
     (i ≤ count)
-    × (sets out place (fieldsBytes (drop i (take count (tuple .fields)))) ≡ sets out₀ place₀ (fieldsBytes (take count (tuple .fields))))
+    × (sets buffer place (fieldsBytes (drop i (take count (tuple .fields)))) ≡ sets buffer₀ place₀ (fieldsBytes (take count (tuple .fields))))
     × (place + length (fieldsBytes (drop i (take count (tuple .fields)))) ≡ place₀ + length (fieldsBytes (take count (tuple .fields))))
-    × (length out ≡ length out₀)
+    × (length buffer ≡ length buffer₀)
 
 abbrev μ-loop : tie.MeasureT-loop
-μ-loop out₀ at tuple count place₀ i₀ out place i = count - i
+μ-loop buffer₀ at tuple count place₀ i₀ buffer place i = count - i
 
 -- what is left of the fields in a turn
 left : (c : tie.In-loop Inv-loop μ-loop) → let a = c .before .before .before .before .before .before .before .args .t3 in
@@ -57,17 +57,19 @@ put-field-requires : tie.Need-put-field-requires Inv-loop μ-loop
 put-field-requires c κs =
     let l = c .before .before .before in
     let p = l .before .before .before in
-    let s = p .before .before .before in
-    ( s .pre .0 .each (l .loop .i) (c .before .before .loop-test .taken)
-    , omega
-    ( arith
-    , left-length (c .before .before)
-    , tuple-length (s .args .t3)
-    , p .put-number .ensures .0
-    , wrote-length (s .args .out .now) (s .args .at) (bytesOf (s .args .t3 .count)) (p .put-number .ensures)
-    , l .loop .inv .2
-    , l .loop .inv .3
-    , s .pre .1))
+    let s = p .before .before .before in (
+      s .pre .0 .each (l .loop .i) (c .before .before .loop-test .taken),
+      omega (
+        arith,
+        left-length (c .before .before),
+        tuple-length (s .args .t3),
+        p .put-number .ensures .0,
+        wrote-length (s .args .buffer .now) (s .args .at) (bytesOf (s .args .t3 .count)) (p .put-number .ensures),
+        l .loop .inv .2,
+        l .loop .inv .3,
+        s .pre .1,
+      ),
+    )
 
 add-i : tie.Need-add-i Inv-loop μ-loop
 add-i c = search needs
@@ -81,20 +83,21 @@ loop-again c =
     let l = f .before .before .before .before in
     let a = l .before .before .before .before .before .before .args .t3 in
     let field = fieldBytes (getD (a .fields) (l .loop .i) blankField) in
-    let rest = fieldsBytes (drop (l .loop .i + 1) (take (a .count) (a .fields))) in
-    ( omega arith
-    , wrote-then (l .loop .out) (l .loop .place) field rest (f .put-field .ensures) (refl, refl) .1
-    ∙ ap (sets (l .loop .out) (l .loop .place)) (sym (left (f .before .before .before)))
-    ∙ l .loop .inv .1
-    , omega (arith, left-length (f .before .before .before), f .put-field .ensures .0, l .loop .inv .2)
-    , wrote-length (l .loop .out) (l .loop .place) field (f .put-field .ensures) ∙ l .loop .inv .3)
+    let rest = fieldsBytes (drop (l .loop .i + 1) (take (a .count) (a .fields))) in (
+      omega arith,
+      wrote-then (l .loop .buffer) (l .loop .place) field rest (f .put-field .ensures) (refl, refl) .1
+          ∙ ap (sets (l .loop .buffer) (l .loop .place)) (sym (left (f .before .before .before)))
+          ∙ l .loop .inv .1,
+      omega (arith, left-length (f .before .before .before), f .put-field .ensures .0, l .loop .inv .2),
+      wrote-length (l .loop .buffer) (l .loop .place) field (f .put-field .ensures) ∙ l .loop .inv .3,
+    )
 
 same-length : tie.Need-same-length Inv-loop μ-loop
 same-length c =
     let l = c .before in
     let p = l .before .before .before in
     let s = p .before .before .before in
-    l .loop .inv .3 ∙ wrote-length (s .args .out .now) (s .args .at) (bytesOf (s .args .t3 .count)) (p .put-number .ensures)
+    l .loop .inv .3 ∙ wrote-length (s .args .buffer .now) (s .args .at) (bytesOf (s .args .t3 .count)) (p .put-number .ensures)
 
 returns : tie.Need-returns Inv-loop μ-loop
 unfolding tupleBytes
@@ -105,9 +108,10 @@ returns c =
     let a = s .args .t3 in
     let all = fieldsBytes (take (a .count) (a .fields)) in
     let none = fields-end a (l .loop .i) (c .loop-test .left) in
-    wrote-then (s .args .out .now) (s .args .at) (bytesOf (a .count)) all (p .put-number .ensures)
-    ( omega (arith, ap length none, l .loop .inv .2)
-    , sym (ap (sets (l .loop .out) (l .loop .place)) none) ∙ l .loop .inv .1)
+    wrote-then (s .args .buffer .now) (s .args .at) (bytesOf (a .count)) all (p .put-number .ensures) (
+      omega (arith, ap length none, l .loop .inv .2),
+      sym (ap (sets (l .loop .buffer) (l .loop .place)) none) ∙ l .loop .inv .1,
+    )
 
 pub put-tuple-spec : {M : Type 1} → statement M
 put-tuple-spec =

@@ -19,7 +19,7 @@ returns : tie.Need-returns
 returns c =
     let f = c .before .before .before in
     let a = f .before .before .args in
-    written-fault (a .call) (a .out .now) (c .before .refusal .given .0 .0) (sym (f .fault .ensures) ∙ c .before .refusal .given .1)
+    written-fault (a .call) (a .buffer .now) (c .before .refusal .given .0 .0) (sym (f .fault .ensures) ∙ c .before .refusal .given .1)
 
 enum-told : tie.Need-enum-told
 enum-told c = search needs
@@ -35,7 +35,7 @@ returns-2 : tie.Need-returns-2
 returns-2 c =
     let w = c .before in
     let a = w .before .before .before .before .before .args in
-    written-full (a .call) (a .out .now) (sound (w .before)) (omega (arith, w .call-width .ensures))
+    written-full (a .call) (a .buffer .now) (sound (w .before)) (omega (arith, w .call-width .ensures))
 
 put-call-requires : tie.Need-put-call-requires
 put-call-requires c κs =
@@ -51,7 +51,7 @@ returns-3 c =
     let p = c .before .before in
     let w = p .before .before .before in
     let a = w .before .before .before .before .before .args in
-    let whole = written-whole (a .call) (a .out .now) (sound (w .before)) (omega (arith, w .call-width .ensures)) in
+    let whole = written-whole (a .call) (a .buffer .now) (sound (w .before)) (omega (arith, w .call-width .ensures)) in
     (ap Length (w .call-width .ensures) ∙ whole .0, p .put-call .ensures ∙ whole .1)
 
 pub write-spec : {M : Type 1} → statement M

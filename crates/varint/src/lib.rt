@@ -80,7 +80,7 @@ pub fn width(value: u64) -> usize
 {
     let mut rest = value;
     let mut n: usize = 1;
-    while 128 <= rest {
+    while rest >= 128 {
         rest /= 128;
         n += 1;
     }

@@ -58,11 +58,12 @@ impl Offset {
         if code == 0 {
             return Decoded::Means(Offset::Bottom);
         }
-        let z = (code / 2) as i32;
+        let half = (code / 2) as i32;
+        let negative = -half;
         if code % 2 == 1 {
-            Decoded::Means(Offset::Hundredths(z))
+            Decoded::Means(Offset::Hundredths(half))
         } else {
-            Decoded::Means(Offset::Hundredths(-z))
+            Decoded::Means(Offset::Hundredths(negative))
         }
     }
 }

@@ -15,7 +15,6 @@ use Rattle.record.specs.declared.reader.ReadTuple.{ReadTuple}
 use Rattle.record.specs.Reading.{place, noTuple, ReadFields, noFields, prepend, fieldAt, fieldsAt, tupleStep}
 use Rattle.record.proofs.Steps.{goes-on, stops}
 use Rattle.tuple.specs.declared.field.Field.{Field}
-use Rattle.tuple.specs.declared.field.Tuple.{Tuple}
 use Rattle.tuple.specs.declared.refusal.Refusal.{Refusal}
 use Rattle.tuple.specs.Fields.{places, blankField}
 

@@ -9,7 +9,7 @@ use lib.Seq.{sets, sets-eq, length-sets, getD-take}
 use borrow.Author.Tests.{le-leb, lt-leb}
 use Rattle.record.specs.declared.writer.Recorded.the-variants.{Length, Unwritten}
 use Rattle.record.specs.Heads.{headNumber}
-use Rattle.record.specs.Writing.{fieldBytes, fieldsBytes, tupleBytes, partBytes, callBytes, WritableField, Writable, WritablePart, WritableCall, writtenOf, leftOf}
+use Rattle.record.specs.Writing.{fieldBytes, fieldsBytes, tupleBytes, partBytes, callBytes, WritableField, WritablePart, WritableCall, writtenOf, leftOf}
 use Rattle.record.proofs.NumberLaws.{kind-most}
 use Rattle.tuple.proofs.NoFault.{fields-sound, tuple-sound, SoundPart, call-sound}
 use Rattle.varint.proofs.ReadingLaws.{picked}

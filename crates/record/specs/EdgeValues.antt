@@ -6,7 +6,6 @@ use lib.ListN.{length, getD, replicate}
 use lib.IntN.{pos, negsuc}
 use Rattle.record.specs.declared.reader.Next.{Next}
 use Rattle.record.specs.declared.reader.Next.the-variants.{At, Refused}
-use Rattle.record.specs.declared.reader.ReadCall.{ReadCall}
 use Rattle.record.specs.declared.writer.Recorded.{Recorded}
 use Rattle.record.specs.declared.writer.Recorded.the-variants.{Length, Unwritten}
 use Rattle.record.specs.Heads.{headNumber}
@@ -26,7 +25,7 @@ use Rattle.varint.specs.declared.Number.the-variants.{Value, Cut, Overlong}
 use Rattle.varint.specs.declared.Written.{Written}
 use Rattle.varint.specs.declared.Written.the-variants.{Next as Stored, Beyond, NoRoom}
 use Rattle.varint.specs.Reading.{numberRefusal, numberAt}
-use Rattle.varint.specs.Writing.{widthOf, writtenAt, leftAt}
+use Rattle.varint.specs.Writing.{writtenAt, leftAt}
 
 -- ---- the rows
 

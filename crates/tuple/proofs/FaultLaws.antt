@@ -1,6 +1,6 @@
 -- The laws of faults that the loops and the returns of `fault` cite, over plain values.
-use mathlib.Core.Path.{_≡_, refl, sym, ap, _∙_}
-use Prim.Native.Nat.{ℕ, zero, suc, _+_, _-_, _≤_, _<_}
+use mathlib.Core.Path.{_≡_, refl, sym}
+use Prim.Native.Nat.{ℕ, suc, _+_, _-_, _≤_, _<_}
 use native.Mathlib.Omega.{arith}
 use mathlib.Core.Bool.{Bool, true, false, _&&_}
 use mathlib.Core.List.{List, [], _∷_}
@@ -8,7 +8,6 @@ use lib.ListN.{length, take, drop, getD}
 use lib.Dec.{leb, ltb}
 use borrow.Author.Tests.{le-leb, lt-leb, eq-eqb, ltb-true, ltb-false}
 use borrow.Table.Steps.{cases}
-use Rattle.tuple.specs.declared.fault.Fault.{Fault}
 use Rattle.tuple.specs.declared.fault.Fault.the-variants.{Absent, Present}
 use Rattle.tuple.specs.declared.field.Field.{Field}
 use Rattle.tuple.specs.declared.field.Tuple.{Tuple}

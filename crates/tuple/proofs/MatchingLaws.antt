@@ -1,14 +1,13 @@
 -- The laws of matching that the loops of `oldest` cite, over plain values.
-use mathlib.Core.Path.{_≡_, refl, sym, ap, _∙_}
-use Prim.Native.Nat.{ℕ, suc, _+_, _≤_, _<_, min}
+use mathlib.Core.Path.{_≡_, sym, ap, _∙_}
+use Prim.Native.Nat.{ℕ, _+_, _≤_, _<_, min}
 use native.Mathlib.Omega.{arith}
 use mathlib.Core.Bool.{Bool, true, false, cond, _&&_}
-use mathlib.Core.List.{List, [], _∷_}
+use mathlib.Core.List.{List}
 use lib.ListN.{length, take, drop, getD}
 use borrow.Author.Tests.{eq-eqb, ne-eqb}
 use Rattle.tuple.specs.declared.field.Field.{Field}
 use Rattle.tuple.specs.declared.field.Tuple.{Tuple}
-use Rattle.tuple.specs.declared.matching.Found.{Found}
 use Rattle.tuple.specs.declared.matching.Found.the-variants.{At, Nowhere}
 use Rattle.tuple.specs.Fields.{places, blankField}
 use Rattle.tuple.specs.Matching.{fieldMatches, fieldsMatch, matches, oldestFrom, oldestOf}

@@ -1,11 +1,10 @@
 -- `varint::put` meets its contract. The loop's invariant: the buffer, with the bytes of the rest from the present place on, is the
 -- buffer at the start with the number's bytes.
-use borrow.Author.Needs.{needs}
 use mathlib.Core.Path.{_≡_, refl, sym, ap, _∙_}
-use Prim.Native.Nat.{ℕ, suc, _+_, _%_, _/_, _≤_}
+use Prim.Native.Nat.{ℕ, _+_, _%_, _/_, _≤_}
 use native.Mathlib.Omega.{arith}
 use native.Mathlib.Numerals.{add-one}
-use mathlib.Core.List.{List, [], _∷_}
+use mathlib.Core.List.{[], _∷_}
 use lib.ListN.{length, set, length-set}
 use lib.Seq.{sets, sets-eq}
 use Rattle.varint.specs.Writing.{bytesOf, widthOf}

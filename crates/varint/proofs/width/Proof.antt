@@ -1,10 +1,10 @@
 -- `varint::width` meets its contract. The loop's invariant: the groups passed and the bytes of the rest are the number's bytes.
 use borrow.Author.Needs.{needs}
 use mathlib.Core.Path.{_≡_, ap}
-use Prim.Native.Nat.{ℕ, _+_, _≤_}
+use Prim.Native.Nat.{_+_, _≤_}
 use native.Mathlib.Omega.{arith}
 use lib.ListN.{length}
-use Rattle.varint.specs.Writing.{bytesOf, widthOf}
+use Rattle.varint.specs.Writing.{widthOf}
 use Rattle.varint.proofs.WritingLaws.{bytes-last, bytes-step, width-most}
 use Rattle.varint.proofs.width.Statement.{statement}
 use Rattle.varint.proofs.width.Tie as tie

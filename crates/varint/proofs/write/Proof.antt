@@ -1,6 +1,6 @@
 -- `varint::write` meets its contract: at each return the tests on the way say whether the number is held and has room.
 use borrow.Author.Needs.{needs}
-use mathlib.Core.Path.{sym, ap, _∙_}
+use mathlib.Core.Path.{ap, _∙_}
 use Prim.Native.Nat.{ℕ, _+_}
 use native.Mathlib.Omega.{arith}
 use Rattle.varint.specs.declared.Written.the-variants.{Next}

@@ -1,5 +1,4 @@
 -- `record::head::head_of` meets its contract: each head is a case of `headOf` by computation, and a number that is none of them is no head.
-use borrow.Author.Needs.{needs}
 use mathlib.Core.Path.{sym, ap}
 use mathlib.Core.Logic.{⊎-elim}
 use Rattle.record.specs.Heads.{headOf}

@@ -1,5 +1,4 @@
 -- `record::writer::part_width` meets its contract: its test is the definition's.
-use borrow.Author.Needs.{needs}
 use mathlib.Core.Path.{_∙_}
 use Rattle.record.specs.Writing.{partBytes}
 use Rattle.record.proofs.writer.part_width.Statement.{statement}

@@ -1,7 +1,7 @@
 -- `tuple::fault::tuple_fault` meets its contract. The loop's invariant: no field passed has a fault, so that those left decide.
 use borrow.Author.Needs.{needs}
 use mathlib.Core.Path.{_≡_, sym, ap, _∙_}
-use Prim.Native.Nat.{ℕ, _+_, _-_, _≤_}
+use Prim.Native.Nat.{_+_, _-_, _≤_}
 use native.Mathlib.Omega.{arith}
 use mathlib.Core.List.{_∷_}
 use lib.ListN.{take, drop, getD}

@@ -1,5 +1,5 @@
 -- `tuple::field::largest` meets its contract: each arm of the match is a case of `largestOf`.
-use mathlib.Core.Path.{_≡_, sym, ap}
+use mathlib.Core.Path.{sym, ap}
 use borrow.Author.Tests.{ne-eqb}
 use Rattle.tuple.specs.Fields.{largestOf}
 use Rattle.tuple.proofs.field.largest.Statement.{statement}

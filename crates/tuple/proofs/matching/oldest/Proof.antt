@@ -1,6 +1,6 @@
 -- `tuple::oldest` meets its contract. Invariants: no tuple passed matches, and the fields passed of the present tuple match, so that what is left decides.
 use borrow.Author.Needs.{needs}
-use Prim.Native.Nat.{ℕ, _+_, _-_, _≤_, _<_, min}
+use Prim.Native.Nat.{_+_, _-_, _≤_, _<_, min}
 use native.Mathlib.Omega.{arith}
 use mathlib.Core.Path.{_≡_, refl, sym, _∙_}
 use mathlib.Core.Bool.{false}

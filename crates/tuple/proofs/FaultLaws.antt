@@ -16,7 +16,7 @@ use Rattle.tuple.specs.declared.refusal.Refusal.{Refusal}
 use Rattle.tuple.specs.declared.refusal.Refusal.the-variants.{Beyond, Misshapen}
 use Rattle.tuple.specs.Fields.{out, cas, places, blankField, largestOf}
 use Rattle.tuple.specs.Faults.{unless, first, knownHead, fieldFault, fieldsFault, tupleFault, partFault, usesTemplate, usesEntry, usedFault, placeBlank, restFrom, restBlank, callFault}
-use Rattle.tuple.proofs.Lists.{drop-step}
+use Rattle.tuple.proofs.Lists.{places-more, places-stop}
 
 -- of a defined field with a known head, only the value is left to test
 pub defined-fault : (entry : Bool) (field : Field) → knownHead field ≡ true → field .state ≡ 0
@@ -53,23 +53,14 @@ tuple-counted entry tuple some h = rw (le-leb 1 (tuple .count) some, le-leb (tup
 -- ---- the unused parts of a tuple's places
 
 module _ (count : ℕ) (fields : List Field) (i : ℕ) (h : i < length fields) where
-  rest-step : restFrom (count - i) (drop i fields)
-      ≡ placeBlank (getD fields i blankField) (ltb i count) && restFrom (count - (i + 1)) (drop (i + 1) fields)
-  unfolding restFrom
-  rest-step =
-      cases (ltb i count)
-      (λ e. let more : count - i ≡ suc (count - (i + 1)) = omega (arith, ltb-true i count e) in
-      rw (drop-step fields i blankField h, more, e))
-      (λ e. let none : count - i ≡ 0 = omega (arith, ltb-false i count e) in
-      let none′ : count - (i + 1) ≡ 0 = omega (arith, ltb-false i count e) in
-      rw (drop-step fields i blankField h, none, none′, e))
-
   pub rest-more : placeBlank (getD fields i blankField) (ltb i count) ≡ true
       → restFrom (count - (i + 1)) (drop (i + 1) fields) ≡ restFrom (count - i) (drop i fields)
-  rest-more e = sym (rw e at rest-step)
+  unfolding restFrom
+  rest-more = places-more placeBlank restFrom (λ field l. refl) (λ n field l. refl) count fields i blankField h
 
   pub rest-stop : placeBlank (getD fields i blankField) (ltb i count) ≡ false → false ≡ restFrom (count - i) (drop i fields)
-  rest-stop e = sym (rw e at rest-step)
+  unfolding restFrom
+  rest-stop = places-stop placeBlank restFrom (λ field l. refl) (λ n field l. refl) count fields i blankField h
 
 pub rest-end : (count : ℕ) → restFrom count [] ≡ true
 unfolding restFrom

@@ -90,3 +90,13 @@ unfoldable pub callFault : Call → Fault
 callFault call =
     first (usedFault call)
     (unless (restBlank (call .template) (usesTemplate (call .code)) && restBlank (call .entry) (usesEntry (call .code))) (refusal 5) Absent)
+
+-- ---- a tuple of a space
+
+abbrev pub isAbsent : Fault → Bool
+isAbsent Absent = true
+isAbsent (Present fault) = false
+
+-- an entry without fault, its unused parts zero
+unfoldable pub isEntry : Tuple → Bool
+isEntry tuple = isAbsent (tupleFault true tuple) && restBlank tuple true

@@ -1,6 +1,7 @@
 // What is wrong with a call that is handed in: none, or the first of the refusals 3 to 5 in record order, unused parts last.
 ghost use mathlib.Core.Path.{_≡_};
-ghost use Rattle.tuple.specs.Faults.{fieldFault, tupleFault, partFault, usedFault, callFault, placeBlank, isBlank, restFrom, restBlank, usesTemplate, usesEntry};
+ghost use mathlib.Core.Bool.{false};
+ghost use Rattle.tuple.specs.Faults.{isEntry, fieldFault, tupleFault, partFault, usedFault, callFault, placeBlank, isBlank, restFrom, restBlank, usesTemplate, usesEntry};
 use crate::field::CAS;
 use crate::field::Call;
 use crate::field::DEFINED;
@@ -38,6 +39,25 @@ impl Call {
             return Fault::Present(Refusal::Misshapen);
         }
         Fault::Absent
+    }
+}
+
+impl Tuple {
+    // Whether a tuple is an entry without fault, its unused parts zero.
+    pub fn is_entry(self) -> bool
+        ensures { λ r. ⌜ r ≡ isEntry self ⌝ }
+    {
+        if let Fault::Present(_) = tuple_fault(self, true) {
+            return false;
+        }
+        rest_blank(self, true)
+    }
+
+    // Whether all of a tuple is zero.
+    pub fn is_unused(self) -> bool
+        ensures { λ r. ⌜ r ≡ restBlank self false ⌝ }
+    {
+        rest_blank(self, false)
     }
 }
 

@@ -4,6 +4,7 @@ mod field;
 mod matching;
 mod offset;
 mod refusal;
+mod reply;
 
 pub use fault::Fault;
 pub use fault::uses_entry;
@@ -39,3 +40,5 @@ pub use offset::Decoded;
 pub use offset::LARGEST_OFFSET;
 pub use offset::Offset;
 pub use refusal::Refusal;
+pub use reply::Outcome;
+pub use reply::Reply;

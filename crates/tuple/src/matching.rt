@@ -2,7 +2,7 @@
 ghost use mathlib.Core.Path.{_≡_};
 ghost use Prim.Native.Nat.{min};
 ghost use lib.ListN.{take};
-ghost use Rattle.tuple.specs.Matching.{fieldMatches, oldestOf};
+ghost use Rattle.tuple.specs.Matching.{fieldMatches, matches, oldestOf};
 use crate::field::DEFINED;
 use crate::field::FIELDS;
 use crate::field::Field;
@@ -42,6 +42,29 @@ pub fn oldest(tuples: [Tuple; TUPLES], count: usize, template: Tuple) -> Found
         return Found::At(at);
     }
     Found::Nowhere
+}
+
+impl Tuple {
+    // Whether an entry matches this template.
+    pub fn matches(self, entry: Tuple) -> bool
+        ensures { λ r. ⌜ r ≡ matches self entry ⌝ }
+    {
+        let wanted = self.count;
+        if entry.count != wanted {
+            return false;
+        }
+        let places = least(wanted, FIELDS);
+        let mut j = 0;
+        while j < places {
+            let asked = self.fields[j];
+            let given = entry.fields[j];
+            if !field_matches(asked, given) {
+                return false;
+            }
+            j += 1;
+        }
+        true
+    }
 }
 
 fn least(a: usize, b: usize) -> usize

@@ -1,0 +1,19 @@
+pub mod Advances
+pub mod CallLaws
+pub mod CallSteps
+pub mod ConfigLaws
+pub mod Decisions
+pub mod DefaultLaws
+pub mod Effects
+pub mod Keys
+pub mod Lengths
+pub mod MemberLaws
+mod MemberSteps
+pub mod NeverFullLaws
+pub mod PolicyLaws
+mod ProposalLaws
+pub mod RunSteps
+pub mod SpaceLaws
+pub mod SpaceRules
+pub mod SumLaws
+mod TurnLaws

@@ -1,0 +1,24 @@
+-- The laws of well-formed spaces that the code cites, over plain values.
+use mathlib.Core.Path.{_≡_, refl}
+use Prim.Native.Nat.{ℕ, _+_, _-_, _<_}
+use mathlib.Core.Bool.{Bool, true, false}
+use mathlib.Core.List.{List, []}
+use lib.ListN.{length, drop, getD}
+use lib.Dec.{ltb}
+use Rattle.space.specs.Spaces.{placeSound, placesFrom}
+use Rattle.tuple.specs.declared.field.Tuple.{Tuple}
+use Rattle.tuple.proofs.Lists.{places-more, places-stop}
+
+module _ (count : ℕ) (tuples : List Tuple) (i : ℕ) (other : Tuple) (h : i < length tuples) where
+  pub sound-more : placeSound (getD tuples i other) (ltb i count) ≡ true
+      → placesFrom (count - (i + 1)) (drop (i + 1) tuples) ≡ placesFrom (count - i) (drop i tuples)
+  unfolding placesFrom
+  sound-more = places-more placeSound placesFrom (λ tuple l. refl) (λ n tuple l. refl) count tuples i other h
+
+  pub sound-stop : placeSound (getD tuples i other) (ltb i count) ≡ false → false ≡ placesFrom (count - i) (drop i tuples)
+  unfolding placesFrom
+  sound-stop = places-stop placeSound placesFrom (λ tuple l. refl) (λ n tuple l. refl) count tuples i other h
+
+pub sound-end : (count : ℕ) → placesFrom count [] ≡ true
+unfolding placesFrom
+sound-end count = refl

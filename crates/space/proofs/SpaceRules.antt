@@ -1,0 +1,133 @@
+-- A well-formed space is the space of the tuples that it holds, and the space of at most 128 entries is well formed.
+use mathlib.Core.Path.{_≡_, refl, ap₂}
+use Prim.Native.Nat.{ℕ, zero, suc, _-_, _≤_}
+use native.Mathlib.Omega.{arith}
+use mathlib.Core.Bool.{true, false, and-eq-true-iff}
+use mathlib.Core.List.{List, [], _∷_, _++_, List·Memᴰ, List·Memᴰ·head, List·Memᴰ·tail, List·Memᴰ·not-nil, List·Memᴰ·cases-cons, Memᴰ·append-left, Memᴰ·append-right}
+use mathlib.Core.Logic.{⊎-elim}
+use lib.ListN.{length, take, drop, replicate, length-take, length-drop, take-append-drop}
+use lib.Seq.{take-append-seam}
+use borrow.Author.Tests.{leb-true, le-leb, eqb-true}
+use Rattle.space.specs.declared.config.Config.{Config}
+use Rattle.space.specs.declared.space.Space.{Space}
+use Rattle.space.specs.Configs.{sound}
+use Rattle.space.specs.Spaces.{held, spaceOf, placeSound, placesFrom, wellFormed}
+use Rattle.space.specs.Laws.{Entries, Typed}
+use Rattle.tuple.specs.declared.field.Field.{Field}
+use Rattle.tuple.specs.declared.field.Tuple.{Tuple}
+use Rattle.tuple.specs.Faults.{isEntry, isBlank, placeBlank, restFrom, restBlank}
+use Rattle.tuple.specs.Fields.{capacity, places, blankField, blankTuple}
+
+-- ---- members
+
+pub mem-take : {a : Tuple} (n : ℕ) (tuples : List Tuple) → List·Memᴰ a (take n tuples) → List·Memᴰ a tuples
+mem-take n tuples m = rw take-append-drop at (Memᴰ·append-left (drop n tuples) m)
+
+pub mem-drop : {a : Tuple} (n : ℕ) (tuples : List Tuple) → List·Memᴰ a (drop n tuples) → List·Memᴰ a tuples
+mem-drop n tuples m = rw take-append-drop at (Memᴰ·append-right (take n tuples) m)
+
+-- ---- blank tuples
+
+blank-field : (field : Field) → isBlank field ≡ true → field ≡ blankField
+unfolding isBlank
+blank-field field h =
+    let value = and-eq-true-iff _ _ .0 h in
+    let head = and-eq-true-iff _ _ .0 (value .0) in
+    let kind = eqb-true (field .kind) 0 (head .0) in
+    let state = eqb-true (field .state) 0 (head .1) in
+    let worth = eqb-true (field .value) 0 (value .1) in
+    let same : _≡_ {A = Field} (record { kind = field .kind; state = field .state; value = field .value }) blankField = cc in
+    same
+
+blank-fields : (n : ℕ) (fields : List Field) → length fields ≡ n → restFrom 0 fields ≡ true → fields ≡ replicate n blankField
+unfolding restFrom placeBlank
+blank-fields zero [] e h = refl
+blank-fields (suc n) [] e h = absurd (omega arith)
+blank-fields zero (field ∷ fields) e h = absurd (omega arith)
+blank-fields (suc n) (field ∷ fields) e h =
+    let parts = and-eq-true-iff _ _ .0 h in
+    ap₂ (λ (a : Field) (l : List Field). a ∷ l) (blank-field field (parts .0)) (blank-fields n fields (omega arith) (parts .1))
+
+blank-tuple : (tuple : Tuple) → length (tuple .fields) ≡ places → placeSound tuple false ≡ true → tuple ≡ blankTuple
+unfolding placeSound restBlank
+blank-tuple tuple six h =
+    let parts = and-eq-true-iff _ _ .0 h in
+    let none = eqb-true (tuple .count) 0 (parts .0) in
+    let fields = blank-fields places (tuple .fields) six (rw none at (parts .1)) in
+    ap₂ (λ (n : ℕ) (l : List Field). record { count = n; fields = l }) none fields
+
+blank-tuples : (tuples : List Tuple) → ((tuple : Tuple) → List·Memᴰ tuple tuples → length (tuple .fields) ≡ places) → placesFrom 0 tuples ≡ true
+    → tuples ≡ replicate (length tuples) blankTuple
+unfolding placesFrom
+blank-tuples [] six h = refl
+blank-tuples (tuple ∷ tuples) six h =
+    let parts = and-eq-true-iff _ _ .0 h in
+    ap₂ (λ (a : Tuple) (l : List Tuple). a ∷ l) (blank-tuple tuple (six tuple (List·Memᴰ·head refl)) (parts .0))
+    (blank-tuples tuples (λ t m. six t (List·Memᴰ·tail m)) (parts .1))
+
+blanks-sound : (n : ℕ) → placesFrom 0 (replicate n blankTuple) ≡ true
+unfolding placesFrom placeSound restBlank restFrom placeBlank isBlank
+blanks-sound zero = refl
+blanks-sound (suc n) = blanks-sound n
+
+-- ---- used places and the places behind them
+
+entries-cons : (tuple : Tuple) (tuples : List Tuple) → isEntry tuple ≡ true → Entries tuples → Entries (tuple ∷ tuples)
+entries-cons tuple tuples e entries a m = ⊎-elim (λ same. rw same e) (entries a) (List·Memᴰ·cases-cons m)
+
+used-places : (count : ℕ) (tuples : List Tuple) → placesFrom count tuples ≡ true → Entries (take count tuples) × (placesFrom 0 (drop count tuples) ≡ true)
+unfolding placesFrom placeSound
+used-places zero tuples h = (λ a m. absurd (List·Memᴰ·not-nil m), h)
+used-places (suc count) [] h = (λ a m. absurd (List·Memᴰ·not-nil m), h)
+used-places (suc count) (tuple ∷ tuples) h =
+    let parts = and-eq-true-iff _ _ .0 h in
+    let rest = used-places count tuples (parts .1) in
+    (entries-cons tuple (take count tuples) (parts .0) (rest .0), rest .1)
+
+places-sound : (n : ℕ) (tuples : List Tuple) → Entries tuples → placesFrom (length tuples) (tuples ++ replicate n blankTuple) ≡ true
+unfolding placesFrom placeSound
+places-sound n [] entries = blanks-sound n
+places-sound n (tuple ∷ tuples) entries =
+    rw (entries tuple (List·Memᴰ·head refl)) (places-sound n tuples (λ a m. entries a (List·Memᴰ·tail m)))
+
+-- ---- the tuples held, and the space of them
+
+-- what the tuples of a well-formed space are
+pub record Lawful (tuples : List Tuple) : Type 0 where
+  pub few : length tuples ≤ capacity
+  pub entries : Entries tuples
+
+pub held-of : (config : Config) (tuples : List Tuple) → held (spaceOf config tuples) ≡ tuples
+held-of config tuples = take-append-seam tuples (replicate (capacity - length tuples) blankTuple)
+
+pub formed-of : (config : Config) (tuples : List Tuple) → sound config ≡ true → Lawful tuples → wellFormed (spaceOf config tuples) ≡ true
+unfolding wellFormed
+formed-of config tuples s lawful =
+    rw (s, le-leb (length tuples) capacity (lawful .few)) (places-sound (capacity - length tuples) tuples (lawful .entries))
+
+module _ (space : Space) (formed : wellFormed space ≡ true) where
+  tests : (sound (space .config) ≡ true) × (space .count ≤ capacity) × (placesFrom (space .count) (space .tuples) ≡ true)
+  unfolding wellFormed
+  tests =
+      let places = and-eq-true-iff _ _ .0 formed in
+      let few = and-eq-true-iff _ _ .0 (places .0) in
+      (few .0, leb-true (space .count) capacity (few .1), places .1)
+
+  pub formed-sound : sound (space .config) ≡ true
+  formed-sound = tests .0
+
+  pub formed-few : space .count ≤ capacity
+  formed-few = tests .1
+
+  pub held-lawful : Lawful (held space)
+  held-lawful = record { few = simp length-take (omega (arith, tests .1)); entries = used-places (space .count) (space .tuples) (tests .2) .0 }
+
+  pub formed-same : Typed space → spaceOf (space .config) (held space) ≡ space
+  formed-same typed =
+      let counted : length (held space) ≡ space .count = simp length-take (omega (arith, tests .1)) in
+      let behind = drop (space .count) (space .tuples) in
+      let left : capacity - length (held space) ≡ length behind = simp length-drop (omega arith) in
+      let blank = blank-tuples behind (λ tuple m. typed .fields tuple (mem-drop (space .count) (space .tuples) m)) (used-places (space .count) (space .tuples) (tests .2) .1) in
+      let whole : held space ++ replicate (capacity - length (held space)) blankTuple ≡ space .tuples =
+      rw (left, ← blank) (take-append-drop (space .count) (space .tuples)) in
+      ap₂ (λ (n : ℕ) (l : List Tuple). record { config = space .config; count = n; tuples = l }) counted whole

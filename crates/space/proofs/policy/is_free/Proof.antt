@@ -1,0 +1,26 @@
+-- `space::policy::is_free` meets its contract: its test is the definition's.
+use borrow.Author.Needs.{needs}
+use mathlib.Core.Path.{ap}
+use mathlib.Core.Bool.{not}
+use Rattle.space.specs.Policies.{isFree}
+use Rattle.space.specs.Proposals.{isTaken}
+use Rattle.space.proofs.policy.is_free.Statement.{statement}
+use Rattle.space.proofs.policy.is_free.Tie as tie
+
+element-copy-out-second : tie.Need-element-copy-out-second
+element-copy-out-second c = search needs
+
+element-copy-out-third : tie.Need-element-copy-out-third
+element-copy-out-third c = search needs
+
+proposed-in-requires : tie.Need-proposed-in-requires
+proposed-in-requires c κs = search needs
+
+returns : tie.Need-returns
+unfolding isFree isTaken
+returns c = ap not (c .proposed-in .ensures)
+
+pub is-free-spec : {M : Type 1} → statement M
+is-free-spec =
+    tie.close
+    (tie.spec element-copy-out-second element-copy-out-third proposed-in-requires returns)

@@ -1,0 +1,32 @@
+-- `space::policy::weak` meets its contract: its tests are the definition's.
+use borrow.Author.Needs.{needs}
+use mathlib.Core.Path.{_∙_}
+use Rattle.space.specs.Policies.{weak}
+use Rattle.space.proofs.policy.weak.Statement.{statement}
+use Rattle.space.proofs.policy.weak.Tie as tie
+
+is-weak-template-requires : tie.Need-is-weak-template-requires
+is-weak-template-requires c κs = search needs
+
+is-weak-entry-requires : tie.Need-is-weak-entry-requires
+is-weak-entry-requires c κs = search needs
+
+same-round-requires : tie.Need-same-round-requires
+same-round-requires c κs = search needs
+
+all-four-requires : tie.Need-all-four-requires
+all-four-requires c κs = search needs
+
+returns : tie.Need-returns
+unfolding weak
+returns c = c .all-four .ensures ∙ cc (c .before .before .before .is-weak-template .ensures, c .before .before .is-weak-entry .ensures, c .before .same-round .ensures)
+
+pub weak-spec : {M : Type 1} → statement M
+weak-spec =
+    tie.close
+    (tie.spec
+    is-weak-template-requires
+    is-weak-entry-requires
+    same-round-requires
+    all-four-requires
+    returns)

@@ -1,0 +1,36 @@
+-- `space::proposal::proposes` meets its contract: its tests are the definition's.
+use borrow.Author.Needs.{needs}
+use mathlib.Core.Path.{_∙_}
+use Rattle.space.specs.Proposals.{proposes}
+use Rattle.space.proofs.proposal.proposes.Statement.{statement}
+use Rattle.space.proofs.proposal.proposes.Tie as tie
+
+element-copy-out-second : tie.Need-element-copy-out-second
+element-copy-out-second c = search needs
+
+element-copy-out-third : tie.Need-element-copy-out-third
+element-copy-out-third c = search needs
+
+element-copy-out-fourth : tie.Need-element-copy-out-fourth
+element-copy-out-fourth c = search needs
+
+is-proposal-requires : tie.Need-is-proposal-requires
+is-proposal-requires c κs = search needs
+
+all-five-requires : tie.Need-all-five-requires
+all-five-requires c κs = search needs
+
+returns : tie.Need-returns
+unfolding proposes
+returns c = c .all-five .ensures ∙ cc (c .before .before .before .before .before .is-proposal .ensures)
+
+pub proposes-spec : {M : Type 1} → statement M
+proposes-spec =
+    tie.close
+    (tie.spec
+    element-copy-out-second
+    element-copy-out-third
+    element-copy-out-fourth
+    is-proposal-requires
+    all-five-requires
+    returns)

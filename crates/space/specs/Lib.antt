@@ -1,0 +1,10 @@
+pub mod Calls
+pub mod Configs
+pub mod Laws
+pub mod Members
+pub mod Policies
+pub mod Proposals
+pub mod RunLaws
+pub mod Shapes
+pub mod Spaces
+pub mod Turns

@@ -1,0 +1,48 @@
+-- Document 01, "What is returned, and for what": a space (01's board), the tuples that it holds, and when it is well formed.
+use Prim.Native.Nat.{ℕ, zero, suc, _-_}
+use mathlib.Core.Bool.{Bool, true, false, cond, _&&_}
+use mathlib.Core.List.{List, [], _∷_, _++_}
+use lib.ListN.{length, take, replicate}
+use lib.Dec.{leb}
+use Rattle.space.specs.declared.config.Config.{Config}
+use Rattle.space.specs.declared.space.Opening.{Opening}
+use Rattle.space.specs.declared.space.Opening.the-variants.{Stands, Unopened}
+use Rattle.space.specs.declared.space.Opened.{Opened}
+use Rattle.space.specs.declared.space.Space.{Space}
+use Rattle.space.specs.Configs.{sound}
+use Rattle.tuple.specs.declared.field.Tuple.{Tuple}
+use Rattle.tuple.specs.Faults.{isEntry, restBlank}
+use Rattle.tuple.specs.Fields.{capacity, blankTuple}
+use Rattle.tuple.specs.Refusals.{refusal}
+
+-- the tuples that a space holds, oldest first
+abbrev pub held : Space → List Tuple
+held space = take (space .count) (space .tuples)
+
+-- the space of a configuration that holds these tuples: blanks stand behind them
+abbrev pub spaceOf : Config → List Tuple → Space
+spaceOf config tuples = record { config = config; count = length tuples; tuples = tuples ++ replicate (capacity - length tuples) blankTuple }
+
+-- a used place holds an entry within its kinds' ranges, and all of another is zero
+unfoldable pub placeSound : Tuple → Bool → Bool
+placeSound tuple used = cond used (isEntry tuple) (restBlank tuple false)
+
+-- of places of which the first `count` are used
+unfoldable pub placesFrom : ℕ → List Tuple → Bool
+placesFrom count [] = true
+placesFrom zero (tuple ∷ tuples) = placeSound tuple false && placesFrom zero tuples
+placesFrom (suc count) (tuple ∷ tuples) = placeSound tuple true && placesFrom count tuples
+
+-- a sound configuration, at most 128 tuples, each an entry within its kinds' ranges, and unused places zero
+unfoldable pub wellFormed : Space → Bool
+wellFormed space = sound (space .config) && leb (space .count) capacity && placesFrom (space .count) (space .tuples)
+
+-- ---- a fresh space
+
+abbrev pub blankConfig : Config
+blankConfig = record { n = 0; t = 0; policy = 0 }
+
+-- it holds no tuple; a configuration that is not sound is refused 1, and the space beside is blank
+unfoldable pub freshOf : Config → Opened
+freshOf config =
+    cond (sound config) (record { opening = Stands; space = spaceOf config [] }) (record { opening = Unopened (refusal 1); space = spaceOf blankConfig [] })

@@ -1,0 +1,16 @@
+// The tuple space: configurations, the four calls, and the policies that permit them.
+mod config;
+mod member;
+mod policy;
+mod proposal;
+mod shape;
+mod space;
+mod turn;
+
+pub use config::Config;
+pub use space::Applied;
+pub use space::Opened;
+pub use space::Opening;
+pub use space::Space;
+pub use space::fresh;
+pub use turn::apply;

@@ -1,0 +1,111 @@
+// What is proposed in a round.
+ghost use mathlib.Core.Path.{_≡_};
+ghost use Prim.Native.Nat.{_≤_};
+ghost use mathlib.Core.Bool.{cond, _||_};
+ghost use lib.Dec.{eqb};
+ghost use Rattle.space.specs.Configs.{processes};
+ghost use Rattle.space.specs.Members.{every, counted};
+ghost use Rattle.space.specs.Proposals.{proposes as proposes·, proposedIn};
+ghost use Rattle.space.specs.Spaces.{held};
+ghost use Rattle.tuple.specs.Fields.{capacity};
+use crate::shape::all_five;
+use crate::shape::is_proposal;
+use crate::space::Space;
+use tuple::Tuple;
+
+// Whether a tuple is a proposal of this round and process, of an offset with a code from low to high.
+pub(crate) fn proposes(tuple: Tuple, round: u64, process: u64, low: u64, high: u64) -> bool
+    ensures { λ r. ⌜ r ≡ proposes· round process low high tuple ⌝ }
+{
+    let second = tuple.fields[1];
+    let third = tuple.fields[2];
+    let fourth = tuple.fields[3];
+    all_five(
+        is_proposal(tuple),
+        second.value == round,
+        third.value == process,
+        low <= fourth.value,
+        fourth.value <= high,
+    )
+}
+
+// Whether such a proposal stands in the space.
+pub(crate) fn proposed_in(space: Space, round: u64, process: u64, low: u64, high: u64) -> bool
+    requires { ⌜ space .count ≤ capacity ⌝ }
+    ensures { λ r. ⌜ r ≡ proposedIn (held space) round process low high ⌝ }
+{
+    let count = space.count;
+    let mut i = 0;
+    while i < count {
+        let tuple = space.tuples[i];
+        if proposes(tuple, round, process, low, high) {
+            return true;
+        }
+        i += 1;
+    }
+    false
+}
+
+// Whether every member of a set has such a proposal.
+pub(crate) fn every_proposed(space: Space, round: u64, set: u64, low: u64, high: u64) -> bool
+    requires { ⌜ space .count ≤ capacity ⌝ }
+    requires { ⌜ space .config .n ≤ processes ⌝ }
+    ensures { λ r. ⌜ r ≡ every (λ k. proposedIn (held space) round k low high) (space .config .n) 1 set ⌝ }
+{
+    let n = space.config.n;
+    let mut rest = set;
+    let mut k: u64 = 1;
+    while k <= n {
+        if !idle_or_proposed(space, round, k, rest % 2, low, high) {
+            return false;
+        }
+        rest /= 2;
+        k += 1;
+    }
+    true
+}
+
+// How many members of a set have proposed an offset.
+pub(crate) fn backers(space: Space, round: u64, set: u64, offset: u64) -> u64
+    requires { ⌜ space .count ≤ capacity ⌝ }
+    requires { ⌜ space .config .n ≤ processes ⌝ }
+    ensures { λ r. ⌜ r ≡ counted (λ k. proposedIn (held space) round k offset offset) (space .config .n) 1 set ⌝ }
+{
+    let n = space.config.n;
+    let mut rest = set;
+    let mut k: u64 = 1;
+    let mut total: u64 = 0;
+    while k <= n {
+        total += backing(space, round, k, rest % 2, offset);
+        rest /= 2;
+        k += 1;
+    }
+    total
+}
+
+// Whether process k has such a proposal, if the bit says that it is a member.
+fn idle_or_proposed(space: Space, round: u64, k: u64, bit: u64, low: u64, high: u64) -> bool
+    requires { ⌜ space .count ≤ capacity ⌝ }
+    ensures { λ r. ⌜ r ≡ (eqb bit 0 || proposedIn (held space) round k low high) ⌝ }
+{
+    if bit == 0 {
+        true
+    } else {
+        proposed_in(space, round, k, low, high)
+    }
+}
+
+// 1 if the bit says that process k is a member and it has proposed the offset, else 0.
+fn backing(space: Space, round: u64, k: u64, bit: u64, offset: u64) -> u64
+    requires { ⌜ space .count ≤ capacity ⌝ }
+    ensures { λ r. ⌜ r ≡ cond (eqb bit 0) 0 (cond (proposedIn (held space) round k offset offset) 1 0) ⌝ }
+{
+    if bit == 0 {
+        return 0;
+    }
+    if proposed_in(space, round, k, offset, offset) {
+        1
+    } else {
+        0
+    }
+}

@@ -1,0 +1,106 @@
+// A space: its configuration and its tuples, oldest first, with blanks behind them.
+ghost use mathlib.Core.Path.{_≡_};
+ghost use mathlib.Core.List.{[]};
+ghost use Rattle.space.specs.Spaces.{spaceOf, placeSound, placesFrom, wellFormed, freshOf};
+use crate::config::Config;
+use tuple::Refusal;
+use tuple::Reply;
+use tuple::TUPLES;
+use tuple::Tuple;
+
+pub struct Space {
+    pub config: Config,
+    pub count: usize,
+    pub tuples: [Tuple; TUPLES],
+}
+
+// Whether a fresh space stands.
+pub enum Opening {
+    Stands,
+    Unopened(Refusal),
+}
+
+pub struct Opened {
+    pub opening: Opening,
+    pub space: Space,
+}
+
+// What a call on a space answers, and the space afterwards.
+pub struct Applied {
+    pub reply: Reply,
+    pub space: Space,
+}
+
+// A fresh space, or refusal 1.
+pub fn fresh(config: Config) -> Opened
+    ensures { λ r. ⌜ r ≡ freshOf config ⌝ }
+{
+    if config.is_sound() {
+        Opened {
+            opening: Opening::Stands,
+            space: empty(config),
+        }
+    } else {
+        Opened {
+            opening: Opening::Unopened(Refusal::Unsound),
+            space: empty(Config {
+                n: 0,
+                t: 0,
+                policy: 0,
+            }),
+        }
+    }
+}
+
+// The space of a configuration that holds nothing.
+fn empty(config: Config) -> Space
+    ensures { λ r. ⌜ r ≡ spaceOf config [] ⌝ }
+{
+    Space {
+        config,
+        count: 0,
+        tuples: [Tuple::blank(); TUPLES],
+    }
+}
+
+impl Space {
+    // Whether a space is well formed.
+    pub fn is_well_formed(self) -> bool
+        ensures { λ r. ⌜ r ≡ wellFormed self ⌝ }
+    {
+        let config = self.config;
+        if !config.is_sound() {
+            return false;
+        }
+        if TUPLES < self.count {
+            return false;
+        }
+        places_sound(self)
+    }
+}
+
+// Whether each used place holds an entry, and each other place nothing.
+fn places_sound(space: Space) -> bool
+    ensures { λ r. ⌜ r ≡ placesFrom (space .count) (space .tuples) ⌝ }
+{
+    let count = space.count;
+    let mut i = 0;
+    while i < TUPLES {
+        let tuple = space.tuples[i];
+        if !place_sound(tuple, i < count) {
+            return false;
+        }
+        i += 1;
+    }
+    true
+}
+
+fn place_sound(tuple: Tuple, used: bool) -> bool
+    ensures { λ r. ⌜ r ≡ placeSound tuple used ⌝ }
+{
+    if used {
+        tuple.is_entry()
+    } else {
+        tuple.is_unused()
+    }
+}

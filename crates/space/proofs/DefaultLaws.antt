@@ -11,7 +11,7 @@ use Rattle.space.specs.declared.config.Config.{Config}
 use Rattle.space.specs.declared.space.Space.{Space}
 use Rattle.space.specs.Configs.{sound}
 use Rattle.space.specs.Proposals.{processOf}
-use Rattle.space.specs.RunLaws.{after, last, OwnOut, Borne, DefaultRules}
+use Rattle.space.specs.RunLaws.{lastOf, after, last, OwnOut, Borne, DefaultRules}
 use Rattle.space.specs.Shapes.{isProposal, isDecision, roundOf}
 use Rattle.space.specs.Spaces.{held, spaceOf}
 use Rattle.space.specs.Turns.{Turn, applied, turnsFrom, turns}
@@ -27,7 +27,7 @@ use Rattle.tuple.specs.declared.reply.Outcome.{Outcome}
 use Rattle.tuple.specs.Fields.{capacity, blankTuple}
 
 after-snoc : (space : Space) (before : List Call) (call : Call) → after space (before ++ (call ∷ [])) ≡ applied (after space before) call .space
-unfolding after
+unfolding lastOf turnsFrom
 after-snoc space [] call = refl
 after-snoc space (first ∷ before) call = after-snoc (applied space first .space) before call
 
@@ -72,7 +72,7 @@ module _ (config : Config) (safe : sound config ≡ true) (two : config .policy 
       code = c .code;
       entry = refl;
       inserted = rw (reached .space) answers;
-      borne = rw (reached .space, take-append-seam tuples (replicate (capacity - length tuples) blankTuple)) (c .borne two);
+      permitted = rw (reached .space, take-append-seam tuples (replicate (capacity - length tuples) blankTuple)) (c .permitted);
     },
   )
 
@@ -98,7 +98,7 @@ module _ (config : Config) (safe : sound config ≡ true) (two : config .policy 
       walk (before ++ (call ∷ [])) rest (step .next) (reached-more reached step)
 
   start : Reached config all [] all []
-  unfolding after turns
+  unfolding turns lastOf turnsFrom
   start =
       record {
         space = fresh config safe;

@@ -60,7 +60,7 @@ pub record Cas (config : Config) (tuples : List Tuple) (call : Call) : Type 0 wh
   pub code : call .code ≡ cas
   pub entry : Decision config (call .entry)
   pub alone : (i : ℕ) → i < length tuples → decides config (getD tuples i blankTuple) ≡ true → roundOf (getD tuples i blankTuple) ≡ roundOf (call .entry) → ⊥
-  pub borne : config .policy ≡ 2 → bears config tuples (call .entry) ≡ true
+  pub permitted : permits config tuples call ≡ true
 
 -- what a call that puts its entry has passed, and what it answers
 pub data Puts (config : Config) (tuples : List Tuple) (call : Call) : Outcome → Type 0 where
@@ -197,17 +197,16 @@ module _ (config : Config) (strict : 1 ≤ config .policy) (tuples : List Tuple)
     template : asks config (call .template) ≡ true
     entry : decides config (call .entry) ≡ true
     round : sameRound (call .template) (call .entry) ≡ true
-    borne : config .policy ≡ 2 → bears config tuples (call .entry) ≡ true
 
   cas-parts : permits config tuples call ≡ true → call .code ≡ cas → Decides
   unfolding default isDecisionCall
   cas-parts h code =
       by-policy h
       (λ e w. let parts = weak-parts w in
-      record { template = rw e (parts .1); entry = rw e (parts .2); round = parts .3; borne = λ two. absurd (omega (arith, eqb-true (config .policy) 1 e)) })
+      record { template = rw e (parts .1); entry = rw e (parts .2); round = parts .3 })
       (λ e d. let both = and-eq-true-iff (isDecisionCall (config .n) call) (bears config tuples (call .entry)) .0 (rw code at d) in
       let parts = four (isDecisionTemplate (call .template)) (isDecision (call .entry)) (sameRound (call .template) (call .entry)) _ (both .0) in
-      record { template = rw e (parts .0); entry = rw e (parts .1); round = parts .2; borne = λ two. both .1 })
+      record { template = rw e (parts .0); entry = rw e (parts .1); round = parts .2 })
 
   puts-cas : permits config tuples call ≡ true → call .code ≡ cas → oldestOf tuples (call .template) ≡ Nowhere → Cas config tuples call
   puts-cas h code none =
@@ -220,7 +219,7 @@ module _ (config : Config) (strict : 1 ≤ config .policy) (tuples : List Tuple)
             let unmatched = oldest-rule .nowhere tuples (call .template) .0 none i b in
             let matched = round-match config (call .template) (getD tuples i blankTuple) (parts .template) e (eqb-true _ _ (round .0) ∙ sym same) in
             let z : _≡_ {A = ℕ} 0 1 = cc in omega arith;
-        borne = parts .borne;
+        permitted = h;
       }
 
 -- ---- what a call does

@@ -13,10 +13,10 @@ use borrow.Table.Steps.{cases}
 use Rattle.space.specs.declared.config.Config.{Config}
 use Rattle.space.specs.Configs.{rounds}
 use Rattle.space.specs.Members.{within, every}
-use Rattle.space.specs.Proposals.{bottom, leastOffset, processOf, offsetOf, proposes, proposedIn, hasProposed, hasProposedSome, isTaken}
+use Rattle.space.specs.Proposals.{bottom, leastCode, processOf, offsetOf, proposes, proposedIn, hasProposed, hasProposedSome, isTaken}
 use Rattle.space.specs.Shapes.{field, roundOf, sameRound, isProposal, isWeakTemplate, isWeakEntry, isDecisionTemplate}
-use Rattle.space.specs.Policies.{decidedOf, setOf, weak, isOwnProposal, isFree, isDecisionCall, backers, crowded, bears, default}
-use Rattle.space.specs.Laws.{Member, Proposed, Entries, WeakRule, OutRule, RdpRule, InpRule, DecisionCall, BearsOffset, BearsBottom, CasOffsetRule, CasBottomRule}
+use Rattle.space.specs.Policies.{decidedOf, setOf, weak, isOwnProposal, isFree, isDecisionCall, backers, crowded, bears, default, permits}
+use Rattle.space.specs.Laws.{Member, Proposed, Entries, BareRule, WeakRule, OutRule, RdpRule, InpRule, DecisionCall, BearsOffset, BearsBottom, CasOffsetRule, CasBottomRule}
 use Rattle.space.proofs.MemberLaws.{within-rule, every-rule, counted-rule}
 use Rattle.tuple.specs.declared.fault.Fault.{Fault}
 use Rattle.tuple.specs.declared.fault.Fault.the-variants.{Absent, Present}
@@ -28,6 +28,12 @@ use Rattle.tuple.specs.Fields.{cas, offset, largestOf, blankField}
 use Rattle.tuple.specs.Offsets.{largestCode}
 use Rattle.tuple.proofs.NoFault.{fields-sound, tuple-sound}
 
+-- ---- policy 0
+
+pub bare-rule : BareRule
+unfolding permits
+bare-rule config tuples call none = rw none
+
 -- ---- policy 1
 
 -- a cas on one round 0 to 7
@@ -38,9 +44,10 @@ same-round template entry = (
 )
 
 pub weak-rule : WeakRule
-unfolding weak
-weak-rule call =
-    let round = same-round (call .template) (call .entry) in (
+unfolding permits weak
+weak-rule config tuples call one =
+    let round = same-round (call .template) (call .entry) in
+    rw one (
       λ h.
           let shapes = and-eq-true-iff _ (sameRound (call .template) (call .entry)) .0 h in
           let entry = and-eq-true-iff _ (isWeakEntry (call .entry)) .0 (shapes .0) in
@@ -157,21 +164,21 @@ has-proposed-some : (tuples : List Tuple) (round process : ℕ) → Entries tupl
     → (hasProposedSome tuples round process ≡ true) ↔ ((w : ℕ) × Proposed tuples round process w)
 unfolding hasProposedSome
 has-proposed-some tuples round process entries = (
-  λ h. let s = proposed-standing round process leastOffset largestCode tuples h in (offsetOf (s .0), between-proposed _ s refl (omega arith)),
+  λ h. let s = proposed-standing round process leastCode largestCode tuples h in (offsetOf (s .0), between-proposed _ s refl (omega arith)),
   λ p. let at = p .1 in
       let most = small-offset (at .tuple) (entries (at .tuple) (at .stands)) (at .shape) in
-      standing-proposed round process leastOffset largestCode tuples (proposed-between at (omega arith) (omega arith)),
+      standing-proposed round process leastCode largestCode tuples (proposed-between at (omega arith) (omega arith)),
 )
 
 -- ---- policy 2: rdp, inp and out
 
 pub rdp-rule : RdpRule
-unfolding default
-rdp-rule config tuples call e = rw e
+unfolding permits default
+rdp-rule config tuples call two e = rw (two, e)
 
 pub inp-rule : InpRule
-unfolding default
-inp-rule config tuples call e = rw e
+unfolding permits default
+inp-rule config tuples call two e = rw (two, e)
 
 free-rule : (tuples : List Tuple) (entry : Tuple) → Entries tuples
     → (isFree tuples entry ≡ true)
@@ -193,10 +200,11 @@ free-rule tuples entry entries =
     )
 
 pub out-rule : OutRule
-unfolding default isOwnProposal
-out-rule config tuples call entries e =
+unfolding permits default isOwnProposal
+out-rule config tuples call two entries e =
     let entry = call .entry in
-    let none = free-rule tuples entry entries in (
+    let none = free-rule tuples entry entries in
+    rw two (
       λ h.
           let tests : isOwnProposal call && isFree tuples entry ≡ true = rw e at h in
           let free = and-eq-true-iff (isOwnProposal call) _ .0 tests in
@@ -277,10 +285,14 @@ module _ (config : Config) (tuples : List Tuple) (call : Call) where
         λ d. rw (d .template, d .entry, round .1 (d .same, d .in-rounds)) (set .1 (d .members)),
       )
 
-  cas-rule : (Bears : Type 0) → call .code ≡ cas → (DecisionCall config call → (bears config tuples (call .entry) ≡ true) ↔ Bears)
-      → (default config tuples call ≡ true) ↔ (DecisionCall config call × Bears)
+  under-default : config .policy ≡ 2 → permits config tuples call ≡ default config tuples call
+  unfolding permits
+  under-default two = rw (ne-eqb (config .policy) 0 (λ e. omega arith), ne-eqb (config .policy) 1 (λ e. omega arith))
+
+  cas-rule : (Bears : Type 0) → config .policy ≡ 2 → call .code ≡ cas → (DecisionCall config call → (bears config tuples (call .entry) ≡ true) ↔ Bears)
+      → (permits config tuples call ≡ true) ↔ (DecisionCall config call × Bears)
   unfolding default isDecisionCall
-  cas-rule Bears e borne = (
+  cas-rule Bears two e borne = rw (under-default two) (
     λ h.
         let tests : isDecisionCall (config .n) call && bears config tuples (call .entry) ≡ true = rw e at h in
         let parts = and-eq-true-iff (isDecisionCall (config .n) call) _ .0 tests in
@@ -291,9 +303,9 @@ module _ (config : Config) (tuples : List Tuple) (call : Call) where
 
 pub cas-offset-rule : CasOffsetRule
 unfolding bears
-cas-offset-rule config tuples call entries e some =
+cas-offset-rule config tuples call two e some =
     let entry = call .entry in
-    cas-rule config tuples call (BearsOffset config tuples entry) e
+    cas-rule config tuples call (BearsOffset config tuples entry) two e
     (λ shaped.
     let each = every-member _ (λ k. has-proposed tuples (roundOf entry) k (decidedOf entry)) (config .n) (setOf entry) (shaped .members) in (
       λ h. let parts = and-eq-true-iff (leb (config .t + 1) (ones (setOf entry))) _ .0 (rw (ne-eqb _ _ some) at h) in
@@ -303,9 +315,9 @@ cas-offset-rule config tuples call entries e some =
 
 pub cas-bottom-rule : CasBottomRule
 unfolding bears
-cas-bottom-rule config tuples call entries e none =
+cas-bottom-rule config tuples call two entries e none =
     let entry = call .entry in
-    cas-rule config tuples call (BearsBottom config tuples entry) e
+    cas-rule config tuples call (BearsBottom config tuples entry) two e
     (λ shaped.
     let each = every-member _ (λ k. has-proposed-some tuples (roundOf entry) k entries) (config .n) (setOf entry) (shaped .members) in
     let few = crowded-rule config tuples (roundOf entry) (setOf entry) in (

@@ -11,8 +11,8 @@ use Rattle.space.specs.Calls.{effect}
 use Rattle.space.specs.Configs.{sound}
 use Rattle.space.specs.Policies.{permits}
 use Rattle.space.specs.Spaces.{held, spaceOf, freshOf}
-use Rattle.space.specs.Turns.{applied}
-use Rattle.space.specs.RunLaws.{after}
+use Rattle.space.specs.Turns.{applied, turnsFrom}
+use Rattle.space.specs.RunLaws.{lastOf, after}
 use Rattle.space.proofs.SpaceRules.{Lawful, held-of}
 use Rattle.space.proofs.CallSteps.{Moves, moves, moves-lawful, Steps, steps}
 use Rattle.tuple.specs.declared.fault.Fault.the-variants.{Absent}
@@ -75,6 +75,6 @@ unfoldable pub fresh-run : (config : Config) → sound config ≡ true → Run c
 fresh-run config s = record { tuples = []; lawful = none-lawful; same = fresh-space config s }
 
 pub after-run : {config : Config} {space : Space} (calls : List Call) → Run config space → Run config (after space calls)
-unfolding after
+unfolding lastOf turnsFrom
 after-run [] run = run
 after-run (call ∷ calls) run = after-run calls (next run .run)

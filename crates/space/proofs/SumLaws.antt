@@ -12,7 +12,7 @@ use Rattle.space.specs.Configs.{sound}
 use Rattle.space.specs.Policies.{default, permits}
 use Rattle.space.specs.Spaces.{held, wellFormed, freshOf}
 use Rattle.space.specs.Turns.{applied, turnsFrom, turns}
-use Rattle.space.specs.RunLaws.{after, put, taken, puts, takes, SumRule, NothingLeaves}
+use Rattle.space.specs.RunLaws.{lastOf, after, put, taken, puts, takes, SumRule, NothingLeaves}
 use Rattle.space.proofs.CallSteps.{Puts, Moves}
 use Rattle.space.proofs.RunSteps.{Goes, Run, next, held-run, fresh-run, after-run}
 use Rattle.tuple.specs.declared.field.Tuple.{Tuple}
@@ -22,10 +22,10 @@ use Rattle.tuple.specs.declared.reply.Outcome.{Outcome}
 -- ---- the sum
 
 goes-sum : {config : Config} {tuples : List Tuple} {call : Call} {how : Outcome} {left : List Tuple} → Goes config tuples call how left
-    → length left + taken (call .code) how ≡ length tuples + put how
+    → length left + taken (call .code) how ≡ length tuples + put (call .code) how
 goes-sum (Goes.stays why low) = omega arith
-goes-sum (Goes.goes f p (Moves.adds (Puts.by-out e) room)) = simp length-append (omega arith)
-goes-sum (Goes.goes f p (Moves.adds (Puts.by-cas e n) room)) = simp length-append (omega arith)
+goes-sum (Goes.goes f p (Moves.adds (Puts.by-out e) room)) = rw e (simp length-append (omega arith))
+goes-sum (Goes.goes f p (Moves.adds (Puts.by-cas e n) room)) = rw e (simp length-append (omega arith))
 goes-sum (Goes.goes f p (Moves.full q h)) = omega arith
 goes-sum (Goes.goes f p (Moves.reads e)) = rw e (omega arith)
 goes-sum (Goes.goes f p Moves.lacks) = omega arith
@@ -34,7 +34,7 @@ goes-sum (Goes.goes f p (Moves.takes i e inside)) = rw e (simp (length-append, l
 
 sum-from : {config : Config} {space : Space} (calls : List Call) (run : Run config space)
     → length (held (after space calls)) + takes (turnsFrom space calls) ≡ length (run .tuples) + puts (turnsFrom space calls)
-unfolding after turnsFrom puts takes
+unfolding turnsFrom puts takes lastOf
 sum-from [] run = rw (held-run run)
 sum-from (call ∷ calls) run =
     let step = next {call = call} run in
@@ -59,7 +59,7 @@ goes-grows two (Goes.goes f p (Moves.takes i e inside)) = let never : false ≡ 
 
 grows-from : {config : Config} {space : Space} (calls : List Call) → config .policy ≡ 2 → (run : Run config space)
     → (more : List Tuple) × (held (after space calls) ≡ run .tuples ++ more)
-unfolding after
+unfolding lastOf turnsFrom
 grows-from [] two run = ([], held-run run ∙ sym (append-nil (run .tuples)))
 grows-from (call ∷ calls) two run =
     let step = next {call = call} run in
@@ -68,13 +68,13 @@ grows-from (call ∷ calls) two run =
     (here .0 ++ later .0, later .1 ∙ ap (λ (l : List Tuple). l ++ later .0) (here .1) ∙ append-assoc (run .tuples) (here .0) (later .0))
 
 after-append : (space : Space) (before calls : List Call) → after space (before ++ calls) ≡ after (after space before) calls
-unfolding after
+unfolding lastOf turnsFrom
 after-append space [] calls = refl
 after-append space (call ∷ before) calls = after-append (applied space call .space) before calls
 
 -- no call changes a space that is not well formed
 after-unformed : {space : Space} (calls : List Call) → wellFormed space ≡ false → after space calls ≡ space
-unfolding after applied
+unfolding applied lastOf turnsFrom
 after-unformed [] e = refl
 after-unformed (call ∷ calls) e = rw e (after-unformed calls e)
 

@@ -1,15 +1,15 @@
 -- The laws of configurations, policies and calls, as claims over the definitions, in document 01's words.
 use mathlib.Core.Path.{_≡_}
 use mathlib.Core.Logic.{_↔_}
-use mathlib.Core.Bool.{Bool, true, false}
+use mathlib.Core.Bool.{true, false}
 use mathlib.Core.List.{List, List·Memᴰ}
 use Prim.Native.Nat.{ℕ, _+_, _-_, _*_, _/_, _%_, _^_, _≤_, _<_}
 use lib.Count.{ones}
-use lib.ListN.{length, getD}
+use lib.ListN.{length}
 use Rattle.space.specs.declared.config.Config.{Config}
 use Rattle.space.specs.declared.space.Space.{Space}
 use Rattle.space.specs.Configs.{processes, rounds, policies, sound}
-use Rattle.space.specs.Policies.{decidedOf, setOf, weak, backers, bears, default, permits}
+use Rattle.space.specs.Policies.{decidedOf, setOf, backers, permits}
 use Rattle.space.specs.Proposals.{bottom, processOf, offsetOf}
 use Rattle.space.specs.Shapes.{roundOf, isProposal, isWeakTemplate, isWeakEntry, isDecisionTemplate, isDecision}
 use Rattle.space.specs.Spaces.{held, wellFormed}
@@ -52,6 +52,11 @@ pub record Proposed (tuples : List Tuple) (round process w : ℕ) : Type 0 where
 abbrev pub Entries : List Tuple → Type 0
 Entries tuples = (tuple : Tuple) → List·Memᴰ tuple tuples → isEntry tuple ≡ true
 
+-- ---- policy 0: all calls
+
+abbrev pub BareRule : Type 0
+BareRule = (config : Config) (tuples : List Tuple) (call : Call) → config .policy ≡ 0 → permits config tuples call ≡ true
+
 -- ---- policy 1: only cas, with the two shapes, on one round 0 to 7
 
 pub record WeakCall (call : Call) : Type 0 where
@@ -62,7 +67,7 @@ pub record WeakCall (call : Call) : Type 0 where
   pub in-rounds : roundOf (call .entry) < rounds
 
 abbrev pub WeakRule : Type 0
-WeakRule = (call : Call) → (weak call ≡ true) ↔ WeakCall call
+WeakRule = (config : Config) (tuples : List Tuple) (call : Call) → config .policy ≡ 1 → (permits config tuples call ≡ true) ↔ WeakCall call
 
 -- ---- policy 2
 
@@ -77,16 +82,17 @@ pub record OwnProposal (tuples : List Tuple) (call : Call) : Type 0 where
 abbrev pub OutRule : Type 0
 OutRule =
     (config : Config) (tuples : List Tuple) (call : Call)
+    → config .policy ≡ 2
     → Entries tuples
     → call .code ≡ out
-    → (default config tuples call ≡ true) ↔ OwnProposal tuples call
+    → (permits config tuples call ≡ true) ↔ OwnProposal tuples call
 
 -- rdp is always permitted, inp never
 abbrev pub RdpRule : Type 0
-RdpRule = (config : Config) (tuples : List Tuple) (call : Call) → call .code ≡ rdp → default config tuples call ≡ true
+RdpRule = (config : Config) (tuples : List Tuple) (call : Call) → config .policy ≡ 2 → call .code ≡ rdp → permits config tuples call ≡ true
 
 abbrev pub InpRule : Type 0
-InpRule = (config : Config) (tuples : List Tuple) (call : Call) → call .code ≡ inp → default config tuples call ≡ false
+InpRule = (config : Config) (tuples : List Tuple) (call : Call) → config .policy ≡ 2 → call .code ≡ inp → permits config tuples call ≡ false
 
 -- cas only with the two shapes, on one round 0 to 7, with all of the set in 1 to n
 pub record DecisionCall (config : Config) (call : Call) : Type 0 where
@@ -110,18 +116,19 @@ pub record BearsBottom (config : Config) (tuples : List Tuple) (entry : Tuple) :
 abbrev pub CasOffsetRule : Type 0
 CasOffsetRule =
     (config : Config) (tuples : List Tuple) (call : Call)
-    → Entries tuples
+    → config .policy ≡ 2
     → call .code ≡ cas
     → (decidedOf (call .entry) ≡ bottom → ⊥)
-    → (default config tuples call ≡ true) ↔ (DecisionCall config call × BearsOffset config tuples (call .entry))
+    → (permits config tuples call ≡ true) ↔ (DecisionCall config call × BearsOffset config tuples (call .entry))
 
 abbrev pub CasBottomRule : Type 0
 CasBottomRule =
     (config : Config) (tuples : List Tuple) (call : Call)
+    → config .policy ≡ 2
     → Entries tuples
     → call .code ≡ cas
     → decidedOf (call .entry) ≡ bottom
-    → (default config tuples call ≡ true) ↔ (DecisionCall config call × BearsBottom config tuples (call .entry))
+    → (permits config tuples call ≡ true) ↔ (DecisionCall config call × BearsBottom config tuples (call .entry))
 
 -- ---- calls
 

@@ -1,6 +1,6 @@
 -- Document 01, "Policies": what is proposed in a round.
 use Prim.Native.Nat.{ℕ}
-use mathlib.Core.Bool.{Bool, true, false, not, _&&_, _||_}
+use mathlib.Core.Bool.{Bool, false, not, _&&_, _||_}
 use mathlib.Core.List.{List, [], _∷_}
 use lib.Dec.{leb, eqb}
 use Rattle.space.specs.Shapes.{field, isProposal, roundOf}
@@ -11,8 +11,8 @@ use Rattle.tuple.specs.Offsets.{largestCode}
 abbrev pub bottom : ℕ
 bottom = 0
 
-abbrev pub leastOffset : ℕ
-leastOffset = 1
+abbrev pub leastCode : ℕ
+leastCode = 1
 
 -- the process and the offset of a proposal
 abbrev pub processOf : Tuple → ℕ
@@ -37,7 +37,7 @@ hasProposed tuples round process w = not (eqb w bottom) && proposedIn tuples rou
 
 -- it has proposed some offset there
 unfoldable pub hasProposedSome : List Tuple → ℕ → ℕ → Bool
-hasProposedSome tuples round process = proposedIn tuples round process leastOffset largestCode
+hasProposedSome tuples round process = proposedIn tuples round process leastCode largestCode
 
 -- a tuple (word 1, r, p, some offset or bottom) stands there
 unfoldable pub isTaken : List Tuple → ℕ → ℕ → Bool

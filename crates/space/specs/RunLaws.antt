@@ -9,11 +9,11 @@ use lib.Dec.{eqb}
 use Rattle.space.specs.declared.config.Config.{Config}
 use Rattle.space.specs.declared.space.Space.{Space}
 use Rattle.space.specs.Configs.{sound}
-use Rattle.space.specs.Policies.{bears}
+use Rattle.space.specs.Policies.{permits}
 use Rattle.space.specs.Proposals.{processOf}
 use Rattle.space.specs.Shapes.{roundOf, isProposal, isDecision}
 use Rattle.space.specs.Spaces.{held, freshOf}
-use Rattle.space.specs.Turns.{Turn, applied, turns}
+use Rattle.space.specs.Turns.{Turn, applied, turnsFrom, turns}
 use Rattle.tuple.specs.declared.field.Tuple.{Tuple}
 use Rattle.tuple.specs.declared.field.Call.{Call}
 use Rattle.tuple.specs.declared.reply.Outcome.{Outcome}
@@ -21,10 +21,14 @@ use Rattle.tuple.specs.declared.reply.Outcome.the-variants.{Done, None, Found, 
 use Rattle.tuple.specs.Fields.{out, inp, cas, blankTuple}
 use Rattle.tuple.specs.Refusals.{refusal}
 
+-- the space that the last turn left, or the one before all of them
+unfoldable pub lastOf : Space → List Turn → Space
+lastOf space [] = space
+lastOf space (turn ∷ rest) = lastOf (turn .space) rest
+
 -- the space that a list of calls leaves
-unfoldable pub after : Space → List Call → Space
-after space [] = space
-after space (call ∷ calls) = after (applied space call .space) calls
+abbrev pub after : Space → List Call → Space
+after space calls = lastOf space (turnsFrom space calls)
 
 abbrev pub last : Config → List Call → Space
 last config calls = after (freshOf config .space) calls
@@ -32,13 +36,13 @@ last config calls = after (freshOf config .space) calls
 -- ---- counts of turns
 
 -- 1 for a done out and for an inserted cas
-abbrev pub put : Outcome → ℕ
-put Done = 1
-put None = 0
-put Found = 0
-put Inserted = 1
-put Held = 0
-put (Refused why) = 0
+abbrev pub put : ℕ → Outcome → ℕ
+put code Done = cond (eqb code out) 1 0
+put code None = 0
+put code Found = 0
+put code Inserted = cond (eqb code cas) 1 0
+put code Held = 0
+put code (Refused why) = 0
 
 -- 1 for an inp that found
 abbrev pub taken : ℕ → Outcome → ℕ
@@ -51,7 +55,7 @@ taken code (Refused why) = 0
 
 unfoldable pub puts : List Turn → ℕ
 puts [] = 0
-puts (turn ∷ rest) = put (turn .reply .outcome) + puts rest
+puts (turn ∷ rest) = put (turn .call .code) (turn .reply .outcome) + puts rest
 
 unfoldable pub takes : List Turn → ℕ
 takes [] = 0
@@ -94,7 +98,7 @@ pub record OwnOut (config : Config) (calls : List Call) (tuple : Tuple) : Type 0
   pub own : turn .call .process ≡ processOf tuple
   pub done : turn .reply .outcome ≡ Done
 
--- the tuple was inserted by a cas, and at its insertion its set bore it as the policy asks
+-- the tuple was inserted by a cas, which the policy permitted on what the space then held (`CasOffsetRule`, `CasBottomRule`)
 pub record Borne (config : Config) (calls : List Call) (tuple : Tuple) : Type 0 where
   pub before : List Call
   pub call : Call
@@ -103,7 +107,7 @@ pub record Borne (config : Config) (calls : List Call) (tuple : Tuple) : Type 0 
   pub code : call .code ≡ cas
   pub entry : call .entry ≡ tuple
   pub inserted : applied (last config before) call .reply .outcome ≡ Inserted
-  pub borne : bears config (held (last config before)) tuple ≡ true
+  pub permitted : permits config (held (last config before)) call ≡ true
 
 pub record DefaultRule (config : Config) (calls : List Call) : Type 0 where
   -- at most one proposal per round and process, each put by that process's own done out

@@ -5,7 +5,6 @@ use mathlib.Core.List.{List, [], _∷_, _++_}
 use lib.ListN.{length, take, replicate}
 use lib.Dec.{leb}
 use Rattle.space.specs.declared.config.Config.{Config}
-use Rattle.space.specs.declared.space.Opening.{Opening}
 use Rattle.space.specs.declared.space.Opening.the-variants.{Stands, Unopened}
 use Rattle.space.specs.declared.space.Opened.{Opened}
 use Rattle.space.specs.declared.space.Space.{Space}

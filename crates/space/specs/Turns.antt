@@ -1,6 +1,5 @@
 -- Document 01, "What is returned, and for what": a call on a space, the refusals in their order, and lists of calls.
-use Prim.Native.Nat.{ℕ}
-use mathlib.Core.Bool.{Bool, true, false, cond, _&&_}
+use mathlib.Core.Bool.{cond, _&&_}
 use mathlib.Core.List.{List, [], _∷_}
 use lib.Dec.{leb}
 use Rattle.space.specs.declared.config.Config.{Config}
@@ -34,12 +33,12 @@ callStep space call =
     (cond (permits (space .config) (held space) call) (performed (space .config) (effect (held space) call)) (refused space (refusal 7)))
     (refused space (refusal 6))
 
--- then the call's fault, 3 to 5
+-- before that, the call's fault, 3 to 5
 abbrev pub faultStep : Space → Call → Fault → Applied
 faultStep space call (Present why) = refused space why
 faultStep space call Absent = callStep space call
 
--- a space that is not well formed is refused 1
+-- first of all, a space that is not well formed is refused 1
 unfoldable pub applied : Space → Call → Applied
 applied space call = cond (wellFormed space) (faultStep space call (callFault call)) (refused space (refusal 1))
 

@@ -28,10 +28,10 @@ use tuple::OUT;
 use tuple::RDP;
 use tuple::Tuple;
 
-// The code of bottom, and the least of an offset.
+// The code of bottom, and the least code of an offset.
 const BOTTOM: u64 = 0;
 
-const LEAST_OFFSET: u64 = 1;
+const LEAST_CODE: u64 = 1;
 
 // Whether a tuple is a proposal in the round of an offset that more than t members of the set have proposed.
 fn crowds(space: Space, tuple: Tuple, round: u64, set: u64) -> bool
@@ -98,7 +98,7 @@ fn bears(space: Space, entry: Tuple) -> bool
     if size < (n - t) as u32 {
         return false;
     }
-    if !every_proposed(space, round, set, LEAST_OFFSET, LARGEST_CODE) {
+    if !every_proposed(space, round, set, LEAST_CODE, LARGEST_CODE) {
         return false;
     }
     !crowded(space, round, set)

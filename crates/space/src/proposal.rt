@@ -65,7 +65,7 @@ pub(crate) fn every_proposed(space: Space, round: u64, set: u64, low: u64, high:
     true
 }
 
-// How many members of a set have proposed an offset.
+// How many members of a set have proposed an offset (not bottom).
 pub(crate) fn backers(space: Space, round: u64, set: u64, offset: u64) -> u64
     requires { ⌜ space .count ≤ capacity ⌝ }
     requires { ⌜ space .config .n ≤ processes ⌝ }

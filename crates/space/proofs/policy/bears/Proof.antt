@@ -1,7 +1,7 @@
 -- `space::policy::bears` meets its contract: its tests are the definition's.
 use borrow.Author.Needs.{needs}
 use mathlib.Core.Path.{sym, ap, _∙_}
-use Prim.Native.Nat.{_+_, _-_}
+use Prim.Native.Nat.{_-_}
 use mathlib.Core.Bool.{not}
 use borrow.Author.Tests.{le-leb, lt-leb, eq-eqb, ne-eqb, not-true, not-false}
 use Rattle.space.specs.Policies.{bears}
@@ -28,10 +28,7 @@ cast-if2 c = search needs
 
 returns : tie.Need-returns
 unfolding bears
-returns c =
-    let s = c .before .before .before .before .before in
-    let a = s .args in
-    rw (ne-eqb _ _ (c .before .if1 .taken), lt-leb (a .space .config .t + 1) _ (c .if2 .taken))
+returns c = rw (ne-eqb _ _ (c .before .if1 .taken), lt-leb _ _ (c .if2 .taken))
 
 every-proposed-requires : tie.Need-every-proposed-requires
 every-proposed-requires c κs = search needs
@@ -44,7 +41,7 @@ returns-2 c =
     let a = s .args in
     c .every-proposed .ensures
     ∙ sym (every-offset (a .space .config .n) (held (a .space)) _ _ _ (p .if1 .taken))
-    ∙ sym (rw (ne-eqb _ _ (p .if1 .taken), le-leb (a .space .config .t + 1) _ (c .before .if2 .left)))
+    ∙ sym (rw (ne-eqb _ _ (p .if1 .taken), le-leb _ _ (c .before .if2 .left)))
 
 sub-if3 : tie.Need-sub-if3
 sub-if3 c = search needs

@@ -1,5 +1,4 @@
 -- `space::shape::all_four` meets its contract: each test on the way is one of the four.
-use borrow.Author.Needs.{needs}
 use borrow.Author.Tests.{not-true, not-false}
 use Rattle.space.proofs.shape.all_four.Statement.{statement}
 use Rattle.space.proofs.shape.all_four.Tie as tie

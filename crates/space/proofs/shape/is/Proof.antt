@@ -1,5 +1,4 @@
 -- `space::shape::is` meets its contract: its tests are the definition's.
-use borrow.Author.Needs.{needs}
 use borrow.Author.Tests.{eq-eqb, ne-eqb}
 use Rattle.space.proofs.shape.is.Statement.{statement}
 use Rattle.space.proofs.shape.is.Tie as tie

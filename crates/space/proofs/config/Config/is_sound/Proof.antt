@@ -1,5 +1,4 @@
 -- `space::Config::is_sound` meets its contract: its tests are the definition's.
-use borrow.Author.Needs.{needs}
 use Prim.Native.Nat.{_-_, _/_}
 use borrow.Author.Tests.{le-leb, lt-leb}
 use Rattle.space.specs.Configs.{sound}

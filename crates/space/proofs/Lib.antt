@@ -5,6 +5,7 @@ pub mod ConfigLaws
 pub mod Decisions
 pub mod DefaultLaws
 pub mod Effects
+pub mod FormedLaws
 pub mod Keys
 pub mod Lengths
 pub mod MemberLaws
@@ -15,5 +16,7 @@ mod ProposalLaws
 pub mod RunSteps
 pub mod SpaceLaws
 pub mod SpaceRules
+mod Strikes
 pub mod SumLaws
+pub mod TallyLaws
 mod TurnLaws

@@ -15,19 +15,19 @@ use Rattle.space.specs.Members.{beyond, within, every, counted}
 
 -- ---- bits, numbered from 0
 
-abbrev Bit : ℕ → ℕ → Type 0
+abbrev pub Bit : ℕ → ℕ → Type 0
 Bit j set = set / 2 ^ j % 2 ≡ 1
 
-lowest : (set : ℕ) → set / 2 ^ 0 % 2 ≡ set % 2
+pub lowest : (set : ℕ) → set / 2 ^ 0 % 2 ≡ set % 2
 lowest set = ap (λ (n : ℕ). n % 2) (div-one set)
 
-higher : (j set : ℕ) → set / 2 ^ suc j % 2 ≡ set / 2 / 2 ^ j % 2
+pub higher : (j set : ℕ) → set / 2 ^ suc j % 2 ≡ set / 2 / 2 ^ j % 2
 higher j set = ap (λ (n : ℕ). n % 2) (sym (shr-shr set 1 j ∙ ap (λ (n : ℕ). set / 2 ^ n) (one-add j)))
 
-member-bit : {k set : ℕ} → Member k set → (j : ℕ) × (k ≡ 1 + j) × Bit j set
+pub member-bit : {k set : ℕ} → Member k set → (j : ℕ) × (k ≡ 1 + j) × Bit j set
 member-bit {k} member = (k - 1, omega arith, member .bit)
 
-bit-member : (j set : ℕ) → Bit j set → Member (1 + j) set
+pub bit-member : (j set : ℕ) → Bit j set → Member (1 + j) set
 bit-member j set bit = let same : 1 + j - 1 ≡ j = omega arith in record { some = omega arith; bit = rw same bit }
 
 -- ---- all of the set is in 1 to n
@@ -61,7 +61,7 @@ within-rule n set =
 
 -- ---- members that pass
 
-onward : (k j : ℕ) → k + 1 + j ≡ k + suc j
+pub onward : (k j : ℕ) → k + 1 + j ≡ k + suc j
 onward k j = omega arith
 
 module _ (test : ℕ → Bool) where

@@ -18,6 +18,7 @@ use Rattle.space.specs.Shapes.{field, roundOf, sameRound, isProposal, is
 use Rattle.space.specs.Policies.{decidedOf, setOf, weak, isOwnProposal, isFree, isDecisionCall, backers, crowded, bears, default, permits}
 use Rattle.space.specs.Laws.{Member, Proposed, Entries, BareRule, WeakRule, OutRule, RdpRule, InpRule, DecisionCall, BearsOffset, BearsBottom, CasOffsetRule, CasBottomRule}
 use Rattle.space.proofs.MemberLaws.{within-rule, every-rule, counted-rule}
+use Rattle.space.proofs.TallyLaws.{tally-rule, same-set}
 use Rattle.tuple.specs.declared.fault.Fault.{Fault}
 use Rattle.tuple.specs.declared.fault.Fault.the-variants.{Absent, Present}
 use Rattle.tuple.specs.declared.field.Field.{Field}
@@ -261,6 +262,21 @@ module _ (config : Config) (tuples : List Tuple) (round set : ℕ) where
         (λ e. rw e),
   )
 
+-- at most t members of a set in 1 to n have proposed w: said by the count, and by their set
+backers-rule : (n t : ℕ) (tuples : List Tuple) (round set : ℕ) → within n set ≡ true → (w : ℕ)
+    → (backers n tuples round set w ≤ t) ↔ ((q : ℕ) → ((k : ℕ) → Member k q ↔ (Member k set × Proposed tuples round k w)) → ones q ≤ t)
+unfolding backers
+backers-rule n t tuples round set inside w =
+    let tally = tally-rule (λ k. hasProposed tuples round k w) n set inside in
+    let means : (k : ℕ) → (hasProposed tuples round k w ≡ true) ↔ Proposed tuples round k w = λ k. has-proposed tuples round k w in (
+      λ few q exactly.
+          let same = same-set q (tally .0)
+          (λ k. (λ m. let p = exactly k .0 m in tally .1 k .1 (p .0, means k .1 (p .1)), λ m. let p = tally .1 k .0 m in exactly k .1 (p .0, means k .0 (p .1)))) in
+          rw same (omega (arith, tally .2)),
+      λ few.
+          omega (arith, tally .2, few (tally .0) (λ k. (λ m. let p = tally .1 k .0 m in (p .0, means k .0 (p .1)), λ p. tally .1 k .1 (p .0, means k .1 (p .1))))),
+    )
+
 -- every member passes a test, of a set that is in 1 to n
 every-member : {P : ℕ → Type 0} (test : ℕ → Bool) → ((k : ℕ) → (test k ≡ true) ↔ P k) → (n set : ℕ) → ((k : ℕ) → Member k set → k ≤ n)
     → (every test n 1 set ≡ true) ↔ ((k : ℕ) → Member k set → P k)
@@ -320,10 +336,11 @@ cas-bottom-rule config tuples call two entries e none =
     cas-rule config tuples call (BearsBottom config tuples entry) two e
     (λ shaped.
     let each = every-member _ (λ k. has-proposed-some tuples (roundOf entry) k entries) (config .n) (setOf entry) (shaped .members) in
-    let few = crowded-rule config tuples (roundOf entry) (setOf entry) in (
+    let few = crowded-rule config tuples (roundOf entry) (setOf entry) in
+    let count = backers-rule (config .n) (config .t) tuples (roundOf entry) (setOf entry) (within-rule (config .n) (setOf entry) .1 (shaped .members)) in (
       λ h.
           let all = and-eq-true-iff _ (not (crowded config tuples (roundOf entry) (setOf entry) tuples)) .0 (rw (eq-eqb _ _ none) at h) in
           let parts = and-eq-true-iff (leb (config .n - config .t) (ones (setOf entry))) _ .0 (all .0) in
-          record { enough = leb-true _ _ (parts .0); each = each .0 (parts .1); few = few .0 (all .1) },
-      λ b. rw (eq-eqb _ _ none, le-leb _ _ (b .enough), each .1 (b .each)) (few .1 (b .few)),
+          record { enough = leb-true _ _ (parts .0); each = each .0 (parts .1); few = λ w. count w .0 (few .0 (all .1) w) },
+      λ b. rw (eq-eqb _ _ none, le-leb _ _ (b .enough), each .1 (b .each)) (few .1 (λ w. count w .1 (b .few w))),
     ))

@@ -11,7 +11,7 @@ use Rattle.space.specs.Policies.{backers}
 use Rattle.space.specs.Proposals.{proposedIn, hasProposed}
 use Rattle.tuple.specs.declared.field.Tuple.{Tuple}
 
-counted-never : (n k set : ℕ) → counted (λ j. false) n k set ≡ 0
+pub counted-never : (n k set : ℕ) → counted (λ j. false) n k set ≡ 0
 unfolding counted
 counted-never zero k set = refl
 counted-never (suc n) k set = omega (arith, nothing (eqb (set % 2) 0), counted-never n (k + 1) (set / 2))

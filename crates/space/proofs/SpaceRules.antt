@@ -48,7 +48,7 @@ blank-fields (suc n) (field ∷ fields) e h =
     let parts = and-eq-true-iff _ _ .0 h in
     ap₂ (λ (a : Field) (l : List Field). a ∷ l) (blank-field field (parts .0)) (blank-fields n fields (omega arith) (parts .1))
 
-blank-tuple : (tuple : Tuple) → length (tuple .fields) ≡ places → placeSound tuple false ≡ true → tuple ≡ blankTuple
+pub blank-tuple : (tuple : Tuple) → length (tuple .fields) ≡ places → placeSound tuple false ≡ true → tuple ≡ blankTuple
 unfolding placeSound restBlank
 blank-tuple tuple six h =
     let parts = and-eq-true-iff _ _ .0 h in
@@ -118,6 +118,9 @@ module _ (space : Space) (formed : wellFormed space ≡ true) where
 
   pub formed-few : space .count ≤ capacity
   formed-few = tests .1
+
+  pub formed-places : placesFrom (space .count) (space .tuples) ≡ true
+  formed-places = tests .2
 
   pub held-lawful : Lawful (held space)
   held-lawful = record { few = simp length-take (omega (arith, tests .1)); entries = used-places (space .count) (space .tuples) (tests .2) .0 }

@@ -1,15 +1,16 @@
 -- The laws of configurations, policies and calls, as claims over the definitions, in document 01's words.
 use mathlib.Core.Path.{_≡_}
 use mathlib.Core.Logic.{_↔_}
-use mathlib.Core.Bool.{true, false}
+use mathlib.Core.Bool.{Bool, true, false}
 use mathlib.Core.List.{List, List·Memᴰ}
 use Prim.Native.Nat.{ℕ, _+_, _-_, _*_, _/_, _%_, _^_, _≤_, _<_}
 use lib.Count.{ones}
-use lib.ListN.{length}
+use lib.ListN.{length, getD}
 use Rattle.space.specs.declared.config.Config.{Config}
 use Rattle.space.specs.declared.space.Space.{Space}
 use Rattle.space.specs.Configs.{processes, rounds, policies, sound}
-use Rattle.space.specs.Policies.{decidedOf, setOf, backers, permits}
+use Rattle.space.specs.Members.{within, counted}
+use Rattle.space.specs.Policies.{decidedOf, setOf, permits}
 use Rattle.space.specs.Proposals.{bottom, processOf, offsetOf}
 use Rattle.space.specs.Shapes.{roundOf, isProposal, isWeakTemplate, isWeakEntry, isDecisionTemplate, isDecision}
 use Rattle.space.specs.Spaces.{held, wellFormed}
@@ -20,7 +21,7 @@ use Rattle.tuple.specs.declared.field.Call.{Call}
 use Rattle.tuple.specs.declared.refusal.Refusal.{Refusal}
 use Rattle.tuple.specs.declared.reply.Outcome.the-variants.{Refused}
 use Rattle.tuple.specs.Faults.{isEntry, callFault}
-use Rattle.tuple.specs.Fields.{out, rdp, inp, cas, places, capacity}
+use Rattle.tuple.specs.Fields.{out, rdp, inp, cas, places, capacity, blankTuple}
 use Rattle.tuple.specs.Refusals.{refusal}
 
 -- ---- configurations
@@ -37,6 +38,13 @@ SoundRule =
 pub record Member (k set : ℕ) : Type 0 where
   pub some : 1 ≤ k
   pub bit : set / 2 ^ (k - 1) % 2 ≡ 1
+
+-- a count over a set in 1 to n is the size of the set of exactly those members that pass
+abbrev pub TallyRule : Type 0
+TallyRule =
+    (test : ℕ → Bool) (n set : ℕ)
+    → within n set ≡ true
+    → (q : ℕ) × ((k : ℕ) → Member k q ↔ (Member k set × (test k ≡ true))) × (ones q ≡ counted test n 1 set)
 
 -- (word 1, count r, count q, offset w) stands in the list, and w is not bottom
 pub record Proposed (tuples : List Tuple) (round process w : ℕ) : Type 0 where
@@ -107,11 +115,11 @@ pub record BearsOffset (config : Config) (tuples : List Tuple) (entry : Tuple) :
   pub enough : config .t + 1 ≤ ones (setOf entry)
   pub each : (k : ℕ) → Member k (setOf entry) → Proposed tuples (roundOf entry) k (decidedOf entry)
 
--- bottom: at least n - t members, each of which has proposed, and of every offset w at most t of them have proposed w
+-- bottom: at least n - t members, each of which has proposed, and of every offset w at most t of them have proposed w: q is their set
 pub record BearsBottom (config : Config) (tuples : List Tuple) (entry : Tuple) : Type 0 where
   pub enough : config .n - config .t ≤ ones (setOf entry)
   pub each : (k : ℕ) → Member k (setOf entry) → (w : ℕ) × Proposed tuples (roundOf entry) k w
-  pub few : (w : ℕ) → backers (config .n) tuples (roundOf entry) (setOf entry) w ≤ config .t
+  pub few : (w q : ℕ) → ((k : ℕ) → Member k q ↔ (Member k (setOf entry) × Proposed tuples (roundOf entry) k w)) → ones q ≤ config .t
 
 abbrev pub CasOffsetRule : Type 0
 CasOffsetRule =
@@ -146,6 +154,16 @@ DeniedRule = (space : Space) (call : Call) → (applied space call .reply .outco
 pub record Typed (space : Space) : Type 0 where
   pub tuples : length (space .tuples) ≡ capacity
   pub fields : (tuple : Tuple) → List·Memᴰ tuple (space .tuples) → length (tuple .fields) ≡ places
+
+-- a sound configuration, at most 128 tuples, an entry at each used place, and a blank tuple at each other
+pub record Formed (space : Space) : Type 0 where
+  pub config : sound (space .config) ≡ true
+  pub few : space .count ≤ capacity
+  pub used : (i : ℕ) → i < space .count → isEntry (getD (space .tuples) i blankTuple) ≡ true
+  pub unused : (i : ℕ) → space .count ≤ i → i < capacity → getD (space .tuples) i blankTuple ≡ blankTuple
+
+abbrev pub WellFormedRule : Type 0
+WellFormedRule = (space : Space) → Typed space → (wellFormed space ≡ true) ↔ Formed space
 
 -- a refused call leaves the space as it was
 abbrev pub Unchanged : Type 0

@@ -1,6 +1,6 @@
 -- Document 01, "Fields and tuples" and "Policies": a set of processes is a number, process k the bit worth 2 ^ (k - 1). The bits are taken
 -- from the lowest on: k is the process of the lowest bit that is left.
-use Prim.Native.Nat.{ℕ, zero, suc, _+_, _/_, _%_}
+use Prim.Native.Nat.{ℕ, zero, suc, _+_, _-_, _*_, _/_, _%_}
 use mathlib.Core.Bool.{Bool, true, cond, _&&_, _||_}
 use lib.Dec.{eqb}
 
@@ -22,3 +22,8 @@ every test (suc n) k set = (eqb (set % 2) 0 || test k) && every test n (k + 1) (
 unfoldable pub counted : (ℕ → Bool) → ℕ → ℕ → ℕ → ℕ
 counted test zero k set = 0
 counted test (suc n) k set = cond (eqb (set % 2) 0) 0 (cond (test k) 1 0) + counted test n (k + 1) (set / 2)
+
+-- a set without process q, if that is one from k to k + n - 1
+unfoldable pub strike : ℕ → ℕ → ℕ → ℕ → ℕ
+strike q zero k set = set
+strike q (suc n) k set = cond (eqb q k) (set - set % 2) (set % 2 + 2 * strike q n (k + 1) (set / 2))

@@ -1,6 +1,7 @@
 // Sets of processes as numbers: process k is the bit worth 2 to the power k - 1.
 ghost use mathlib.Core.Path.{_≡_};
-ghost use Rattle.space.specs.Members.{within as within·};
+ghost use Prim.Native.Nat.{_+_, _≤_};
+ghost use Rattle.space.specs.Members.{within as within·, strike as strike·};
 
 // Whether all of a set is in 1 to n.
 pub(crate) fn within(n: u64, set: u64) -> bool
@@ -13,4 +14,18 @@ pub(crate) fn within(n: u64, set: u64) -> bool
         k += 1;
     }
     rest == 0
+}
+
+// A set without a process, which is looked for from the lowest bit, process k, on.
+pub(crate) fn strike(process: u64, n: u64, k: u64, set: u64) -> u64
+    requires { ⌜ k + n ≤ 16 ⌝ }
+    ensures { λ r. ⌜ r ≡ strike· process n k set ⌝ }
+{
+    if n == 0 {
+        return set;
+    }
+    if process == k {
+        return set - set % 2;
+    }
+    set % 2 + 2 * strike(process, n - 1, k + 1, set / 2)
 }

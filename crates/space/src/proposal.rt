@@ -4,10 +4,11 @@ ghost use Prim.Native.Nat.{_≤_};
 ghost use mathlib.Core.Bool.{cond, _||_};
 ghost use lib.Dec.{eqb};
 ghost use Rattle.space.specs.Configs.{processes};
-ghost use Rattle.space.specs.Members.{every, counted};
-ghost use Rattle.space.specs.Proposals.{proposes as proposes·, proposedIn};
+ghost use Rattle.space.specs.Members.{every, counted, strike as strike·};
+ghost use Rattle.space.specs.Proposals.{processOf, proposes as proposes·, proposedIn};
 ghost use Rattle.space.specs.Spaces.{held};
 ghost use Rattle.tuple.specs.Fields.{capacity};
+use crate::member::strike;
 use crate::shape::all_five;
 use crate::shape::is_proposal;
 use crate::space::Space;
@@ -65,20 +66,24 @@ pub(crate) fn every_proposed(space: Space, round: u64, set: u64, low: u64, high:
     true
 }
 
-// How many members of a set have proposed an offset (not bottom).
+// How many members of a set have proposed an offset (not bottom). In one pass: each is struck off the set when it is met, so that it is
+// counted once.
 pub(crate) fn backers(space: Space, round: u64, set: u64, offset: u64) -> u64
     requires { ⌜ space .count ≤ capacity ⌝ }
     requires { ⌜ space .config .n ≤ processes ⌝ }
     ensures { λ r. ⌜ r ≡ counted (λ k. proposedIn (held space) round k offset offset) (space .config .n) 1 set ⌝ }
 {
+    let count = space.count;
     let n = space.config.n;
     let mut rest = set;
-    let mut k: u64 = 1;
     let mut total: u64 = 0;
-    while k <= n {
-        total += backing(space, round, k, rest % 2, offset);
-        rest /= 2;
-        k += 1;
+    let mut i = 0;
+    while i < count {
+        let tuple = space.tuples[i];
+        let left = strike_proposer(tuple, round, offset, n, rest);
+        total += differ(left, rest);
+        rest = left;
+        i += 1;
     }
     total
 }
@@ -95,17 +100,22 @@ fn idle_or_proposed(space: Space, round: u64, k: u64, bit: u64, low: u64, high: 
     }
 }
 
-// 1 if the bit says that process k is a member and it has proposed the offset, else 0.
-fn backing(space: Space, round: u64, k: u64, bit: u64, offset: u64) -> u64
-    requires { ⌜ space .count ≤ capacity ⌝ }
-    ensures { λ r. ⌜ r ≡ cond (eqb bit 0) 0 (cond (proposedIn (held space) round k offset offset) 1 0) ⌝ }
+// The set without the process of a tuple that proposes the offset in the round.
+fn strike_proposer(tuple: Tuple, round: u64, offset: u64, n: u64, set: u64) -> u64
+    requires { ⌜ n ≤ processes ⌝ }
+    ensures { λ r. ⌜ r ≡ cond (proposes· round (processOf tuple) offset offset tuple) (strike· (processOf tuple) n 1 set) set ⌝ }
 {
-    if bit == 0 {
-        return 0;
-    }
-    if proposed_in(space, round, k, offset, offset) {
-        1
+    let third = tuple.fields[2];
+    let process = third.value;
+    if proposes(tuple, round, process, offset, offset) {
+        strike(process, n, 1, set)
     } else {
-        0
+        set
     }
+}
+
+fn differ(a: u64, b: u64) -> u64
+    ensures { λ r. ⌜ r ≡ cond (eqb a b) 0 1 ⌝ }
+{
+    if a == b { 0 } else { 1 }
 }

@@ -10,6 +10,7 @@ use tuple::COUNT;
 use tuple::Call;
 use tuple::DECISION;
 use tuple::DEFINED;
+use tuple::FIELDS;
 use tuple::FORMAL;
 use tuple::Field;
 use tuple::OFFSET;
@@ -135,7 +136,7 @@ fn opens(label: &[u8], config: Config) {
 // ---- the cases
 
 // The seven calls of the worked script: -40 has the code 80, 40 the code 81.
-pub fn script() {
+pub(crate) fn script() {
     let mut board = open(4, 1, 2);
     board = make(b"script 1", board, out(1, proposal(0, 1, 80)));
     board = make(b"script 2", board, out(2, proposal(0, 2, 81)));
@@ -157,7 +158,7 @@ fn held(label: &[u8], space: Space) {
     word(b"\n");
 }
 
-pub fn configurations() {
+pub(crate) fn configurations() {
     opens(
         b"set-up 4 1",
         Config {
@@ -189,11 +190,11 @@ fn words(count: usize) -> Tuple {
     let one = field(WORD, DEFINED, 7);
     Tuple {
         count,
-        fields: [one; 6],
+        fields: [one; FIELDS],
     }
 }
 
-pub fn counts_and_sets() {
+pub(crate) fn counts_and_sets() {
     let board = open(4, 1, 0);
     make(b"field count 6", board, out(1, words(6)));
     make(b"field count 7", board, out(1, words(7)));
@@ -204,13 +205,31 @@ pub fn counts_and_sets() {
 }
 
 // With t = 0 every proposal of a member is one by more than t members.
-pub fn bottom_without_faulty() {
+pub(crate) fn bottom_without_faulty() {
     let mut board = open(1, 0, 2);
     board = make(b"t 0 proposal", board, out(1, proposal(0, 1, 80)));
     make(b"t 0 bottom", board, cas(1, asking(0), decision(0, 0, 1)));
 }
 
-pub fn capacity() {
+// Bottom, on proposals of three offsets by processes 1, 2 and 3; then on spaces handed in: one that holds a proposal of process 1 twice, and
+// one in which process 3 has proposed nothing but bottom.
+pub(crate) fn bottom() {
+    let mut board = open(4, 1, 2);
+    board = quietly(board, out(1, proposal(0, 1, 80)));
+    board = quietly(board, out(2, proposal(0, 2, 81)));
+    board = quietly(board, out(3, proposal(0, 3, 82)));
+    let call = cas(1, asking(0), decision(0, 0, 7));
+    make(b"bottom of three offsets", board, call);
+    let mut twice = board;
+    twice.count = 4;
+    twice.tuples[3] = proposal(0, 1, 80);
+    make(b"bottom with one proposal twice", twice, call);
+    let mut without = board;
+    without.tuples[2] = proposal(0, 3, 0);
+    make(b"bottom with bottom proposed", without, call);
+}
+
+pub(crate) fn capacity() {
     let board = filled(open(1, 0, 0), out(1, words(6)), 127);
     let full = make(b"out 128", board, out(1, words(6)));
     make(b"out 129", full, out(1, words(6)));
@@ -230,7 +249,7 @@ fn filled(space: Space, call: Call, times: u32) -> Space {
     board
 }
 
-pub fn slips() {
+pub(crate) fn slips() {
     signs();
     bottom_and_zero();
     two_proposals();

@@ -7,6 +7,7 @@ fn main() {
     cases::configurations();
     cases::counts_and_sets();
     cases::bottom_without_faulty();
+    cases::bottom();
     cases::capacity();
     cases::slips();
 }

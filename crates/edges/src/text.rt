@@ -1,5 +1,6 @@
 // A reply as a line of text, in 01's words.
 use libc::STDOUT_FILENO;
+use tuple::FIELDS;
 use tuple::Field;
 use tuple::OFFSET;
 use tuple::Outcome;
@@ -9,7 +10,7 @@ use tuple::Tuple;
 use tuple::WORD;
 
 // A label, the reply and a line feed.
-pub fn line(label: &[u8], reply: Reply) {
+pub(crate) fn line(label: &[u8], reply: Reply) {
     io::write_all(STDOUT_FILENO, label);
     let outcome = reply.outcome;
     let tuple = reply.tuple;
@@ -24,11 +25,11 @@ pub fn line(label: &[u8], reply: Reply) {
     word(b"\n");
 }
 
-pub fn word(text: &[u8]) {
+pub(crate) fn word(text: &[u8]) {
     io::write_all(STDOUT_FILENO, text);
 }
 
-pub fn refused(refusal: Refusal) {
+pub(crate) fn refused(refusal: Refusal) {
     word(b" refused ");
     let number = refusal.number();
     io::print_decimal(STDOUT_FILENO, number as u64);
@@ -43,7 +44,7 @@ fn found(text: &[u8], tuple: Tuple) {
 fn fields(tuple: Tuple) {
     let count = tuple.count;
     let mut i = 0;
-    while i < 6 {
+    while i < FIELDS {
         if i < count {
             let one = tuple.fields[i];
             field(one);

@@ -10,14 +10,15 @@ use lib.Dec.{leb, ltb, eqb}
 use borrow.Author.Tests.{ltb-true, ltb-false, leb-true, eqb-true, eqb-false, not-true, eq-eqb, ne-eqb}
 use borrow.Table.Steps.{cases}
 use Rattle.space.specs.declared.config.Config.{Config}
+use Rattle.space.specs.declared.space.Space.{Space}
 use Rattle.space.specs.declared.space.Applied.{Applied}
 use Rattle.space.specs.Calls.{Effect, inserted, rdpEffect, casEffect, effect}
 use Rattle.space.specs.Configs.{processes, rounds, policies, sound}
 use Rattle.space.specs.Policies.{weak, isOwnProposal, isFree, isDecisionCall, bears, default, permits}
 use Rattle.space.specs.Proposals.{bottom, processOf, offsetOf, isTaken}
 use Rattle.space.specs.Shapes.{field, roundOf, inRounds, sameRound, isProposal, isWeakTemplate, isWeakEntry, isDecisionTemplate, isDecision}
-use Rattle.space.specs.Spaces.{spaceOf, wellFormed}
-use Rattle.space.specs.Turns.{performed, faultStep, applied}
+use Rattle.space.specs.Spaces.{held, spaceOf, wellFormed}
+use Rattle.space.specs.Turns.{refused, performed, verdictStep, faultStep, applied}
 use Rattle.space.proofs.Decisions.{decides, asks, four, within-fields, proposal-parts, round-match}
 use Rattle.tuple.specs.declared.fault.Fault.{Fault}
 use Rattle.tuple.specs.declared.fault.Fault.the-variants.{Absent, Present}
@@ -31,6 +32,7 @@ use Rattle.tuple.specs.declared.refusal.Refusal.the-variants.{Beyond, Unknown, 
 use Rattle.tuple.specs.declared.reply.Outcome.{Outcome}
 use Rattle.tuple.specs.declared.reply.Outcome.the-variants as outcome
 use Rattle.tuple.specs.Faults.{unless, first, knownHead, isDefined, fieldFault, fieldsFault, tupleFault, partFault, usesTemplate, usesEntry, usedFault, restBlank, callFault}
+use Rattle.tuple.specs.Refusals.{refusal}
 use Rattle.tuple.specs.Fields.{offset, defined, out, rdp, inp, cas, places, capacity, largestOf, blankField, blankTuple}
 use Rattle.tuple.specs.Matching.{oldestOf}
 use Rattle.tuple.specs.Offsets.{largestCode}
@@ -228,6 +230,11 @@ picked : {X : Type 0} (P : X → Type 0) (t : Bool) {a b : X} → (t ≡ true �
 picked P true f g = f refl
 picked P false f g = g refl
 
+judged : (P : Applied → Type 0) (space : Space) (call : Call) (t : Bool) → (t ≡ true → P (performed (space .config) (effect (held space) call)))
+    → (t ≡ false → P (refused space (refusal 7))) → P (verdictStep space call (unless t (refusal 7) Absent))
+judged P space call true f g = f refl
+judged P space call false f g = g refl
+
 module _ (config : Config) (safe : sound config ≡ true) (strict : 1 ≤ config .policy) (tuples : List Tuple) (call : Call) where
   Does : Effect → Type 0
   Does done = Step config tuples call (performed config done)
@@ -261,10 +268,11 @@ module _ (config : Config) (safe : sound config ≡ true) (strict : 1 ≤ config
   unfolding Does
   fault-step (Present why) fault (present h) = kept (λ e. h (cc)) refl
   fault-step Absent fault absent =
-      rw (take-append-seam tuples (replicate (capacity - length tuples) blankTuple))
+      let seam = take-append-seam tuples (replicate (capacity - length tuples) blankTuple) in
+      rw seam
       (picked (Step config tuples call) (leb 1 (call .process) && leb (call .process) (config .n))
       (λ k. let known = between 1 (call .process) (config .n) k in
-      picked (Step config tuples call) (permits config tuples call) (λ h. effect-step (known .0) (known .1) fault h)
+      judged (Step config tuples call) (spaceOf config tuples) call (permits config tuples call) (λ h. rw seam (effect-step (known .0) (known .1) fault h))
       (λ h. kept (λ e. let z : _≡_ {A = ℕ} 0 1 = cc in omega arith) refl))
       (λ k. kept (λ e. let z : _≡_ {A = ℕ} 0 1 = cc in omega arith) refl))
 

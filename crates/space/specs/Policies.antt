@@ -8,9 +8,13 @@ use Rattle.space.specs.declared.config.Config.{Config}
 use Rattle.space.specs.Members.{within, every, counted}
 use Rattle.space.specs.Proposals.{bottom, processOf, offsetOf, hasProposed, hasProposedSome, isTaken}
 use Rattle.space.specs.Shapes.{field, roundOf, inRounds, sameRound, isProposal, isWeakTemplate, isWeakEntry, isDecisionTemplate, isDecision}
+use Rattle.tuple.specs.declared.fault.Fault.{Fault}
+use Rattle.tuple.specs.declared.fault.Fault.the-variants.{Absent}
 use Rattle.tuple.specs.declared.field.Tuple.{Tuple}
 use Rattle.tuple.specs.declared.field.Call.{Call}
+use Rattle.tuple.specs.Faults.{unless}
 use Rattle.tuple.specs.Fields.{out, rdp, cas}
+use Rattle.tuple.specs.Refusals.{refusal}
 
 -- ---- 1, weak (Fig. 3): only cas of the two shapes on one round; nothing is asked of the offset
 
@@ -75,3 +79,7 @@ default config tuples call =
 unfoldable pub permits : Config → List Tuple → Call → Bool
 permits config tuples call =
     cond (eqb (config .policy) 0) true (cond (eqb (config .policy) 1) (weak call) (default config tuples call))
+
+-- the policy's verdict: no refusal, or 7
+abbrev pub verdict : Config → List Tuple → Call → Fault
+verdict config tuples call = unless (permits config tuples call) (refusal 7) Absent

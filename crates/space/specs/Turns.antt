@@ -6,7 +6,7 @@ use Rattle.space.specs.declared.config.Config.{Config}
 use Rattle.space.specs.declared.space.Space.{Space}
 use Rattle.space.specs.declared.space.Applied.{Applied}
 use Rattle.space.specs.Calls.{Effect, effect}
-use Rattle.space.specs.Policies.{permits}
+use Rattle.space.specs.Policies.{verdict}
 use Rattle.space.specs.Spaces.{held, spaceOf, wellFormed, freshOf}
 use Rattle.tuple.specs.declared.fault.Fault.{Fault}
 use Rattle.tuple.specs.declared.fault.Fault.the-variants.{Absent, Present}
@@ -26,11 +26,15 @@ refused space why = record { reply = record { outcome = Refused why; tuple = bla
 abbrev pub performed : Config → Effect → Applied
 performed config done = record { reply = record { outcome = done .outcome; tuple = done .tuple }; space = spaceOf config (done .tuples) }
 
--- process 0 or above n is refused 6, and what the policy doesn't permit 7
+-- what the policy's verdict refuses is refused
+abbrev pub verdictStep : Space → Call → Fault → Applied
+verdictStep space call (Present why) = refused space why
+verdictStep space call Absent = performed (space .config) (effect (held space) call)
+
+-- before that, process 0 or above n is refused 6
 abbrev pub callStep : Space → Call → Applied
 callStep space call =
-    cond (leb 1 (call .process) && leb (call .process) (space .config .n))
-    (cond (permits (space .config) (held space) call) (performed (space .config) (effect (held space) call)) (refused space (refusal 7)))
+    cond (leb 1 (call .process) && leb (call .process) (space .config .n)) (verdictStep space call (verdict (space .config) (held space) call))
     (refused space (refusal 6))
 
 -- before that, the call's fault, 3 to 5

@@ -4,7 +4,7 @@ ghost use mathlib.Core.Bool.{_&&_};
 ghost use Prim.Native.Nat.{_≤_, _<_};
 ghost use lib.Dec.{ltb, eqb};
 ghost use Rattle.space.specs.Configs.{processes};
-ghost use Rattle.space.specs.Policies.{weak as weak·, isOwnProposal, isFree, isDecisionCall, backers as backers·, crowded as crowded·, bears as bears·, default as default·, permits as permits·};
+ghost use Rattle.space.specs.Policies.{weak as weak·, isOwnProposal, isFree, isDecisionCall, backers as backers·, crowded as crowded·, bears as bears·, default as default·, permits as permits·, verdict as verdict·};
 ghost use Rattle.space.specs.Proposals.{offsetOf};
 ghost use Rattle.space.specs.Shapes.{roundOf, sameRound, isProposal};
 ghost use Rattle.space.specs.Spaces.{held};
@@ -23,9 +23,11 @@ use crate::shape::is_weak_template;
 use crate::space::Space;
 use tuple::CAS;
 use tuple::Call;
+use tuple::Fault;
 use tuple::LARGEST_CODE;
 use tuple::OUT;
 use tuple::RDP;
+use tuple::Refusal;
 use tuple::Tuple;
 
 // The code of bottom, and the least code of an offset.
@@ -205,7 +207,7 @@ fn default(space: Space, call: Call) -> bool
 }
 
 // Whether the space's policy permits a call.
-pub(crate) fn permits(space: Space, call: Call) -> bool
+fn permits(space: Space, call: Call) -> bool
     requires { ⌜ space .count ≤ capacity ⌝ }
     requires { ⌜ space .config .n ≤ processes ⌝ }
     requires { ⌜ space .config .t ≤ space .config .n ⌝ }
@@ -219,4 +221,18 @@ pub(crate) fn permits(space: Space, call: Call) -> bool
         return weak(call);
     }
     default(space, call)
+}
+
+// The policy's verdict on a call: no refusal, or 7.
+pub(crate) fn verdict(space: Space, call: Call) -> Fault
+    requires { ⌜ space .count ≤ capacity ⌝ }
+    requires { ⌜ space .config .n ≤ processes ⌝ }
+    requires { ⌜ space .config .t ≤ space .config .n ⌝ }
+    ensures { λ r. ⌜ r ≡ verdict· (space .config) (held space) call ⌝ }
+{
+    if permits(space, call) {
+        Fault::Absent
+    } else {
+        Fault::Present(Refusal::Denied)
+    }
 }

@@ -5,7 +5,7 @@ ghost use Prim.Native.Nat.{_<_};
 ghost use Rattle.space.specs.Calls.{effect, inserted, without};
 ghost use Rattle.space.specs.Spaces.{held, spaceOf, wellFormed};
 ghost use Rattle.space.specs.Turns.{refused as refused·, performed, applied};
-use crate::policy::permits;
+use crate::policy::verdict;
 use crate::space::Applied;
 use crate::space::Space;
 use tuple::Call;
@@ -36,8 +36,8 @@ pub fn apply(space: Space, call: Call) -> Applied
     if space.config.n < (call.process as u64) {
         return refused(space, Refusal::Stranger);
     }
-    if !permits(space, call) {
-        return refused(space, Refusal::Denied);
+    if let Fault::Present(refusal) = verdict(space, call) {
+        return refused(space, refusal);
     }
     perform(space, call)
 }

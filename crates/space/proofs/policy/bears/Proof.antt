@@ -1,11 +1,13 @@
 -- `space::policy::bears` meets its contract: its tests are the definition's.
 use borrow.Author.Needs.{needs}
-use mathlib.Core.Path.{sym, ap, _∙_}
+use mathlib.Core.Path.{_≡_, sym, ap, _∙_}
 use Prim.Native.Nat.{_-_}
 use mathlib.Core.Bool.{not}
 use borrow.Author.Tests.{le-leb, lt-leb, eq-eqb, ne-eqb, not-true, not-false}
-use Rattle.space.specs.Policies.{bears}
+use Rattle.space.specs.Members.{every}
+use Rattle.space.specs.Policies.{setOf, bears}
 use Rattle.space.specs.Proposals.{hasProposedSome}
+use Rattle.space.specs.Shapes.{roundOf}
 use Rattle.space.specs.Spaces.{held}
 use Rattle.space.proofs.ProposalLaws.{every-offset}
 use Rattle.space.proofs.policy.bears.Statement.{statement}
@@ -58,24 +60,31 @@ returns-3 c =
 every-proposed-requires-2 : tie.Need-every-proposed-requires-2
 every-proposed-requires-2 c κs = search needs
 
+-- bottom itself is no proposal
+all-proposed : (c : tie.After-every-proposed2) → let a = c .before .before .before .before .before .before .args in
+    let entry = a .t2 in
+    c .every-proposed2 .result ≡ every (λ k. hasProposedSome (held (a .space)) (roundOf entry) k) (a .space .config .n) 1 (setOf entry)
+unfolding hasProposedSome
+all-proposed c = c .every-proposed2 .ensures
+
 returns-4 : tie.Need-returns-4
-unfolding bears hasProposedSome
+unfolding bears
 returns-4 c =
     let e = c .before in
     let a = e .before .before .before .before .before .before .args in
-    rw (eq-eqb _ _ (e .before .before .if1 .left), le-leb (a .space .config .n - a .space .config .t) _ (e .before .if3 .left), sym (e .every-proposed2 .ensures) ∙ not-true _ (c .if4 .taken))
+    rw (eq-eqb _ _ (e .before .before .if1 .left), le-leb (a .space .config .n - a .space .config .t) _ (e .before .if3 .left), sym (all-proposed e) ∙ not-true _ (c .if4 .taken))
 
 crowded-requires : tie.Need-crowded-requires
 crowded-requires c κs = search needs
 
 returns-5 : tie.Need-returns-5
-unfolding bears hasProposedSome
+unfolding bears
 returns-5 c =
     let e = c .before .before in
     let a = e .before .before .before .before .before .before .args in
     ap not (c .crowded .ensures)
     ∙ sym
-    (rw (eq-eqb _ _ (e .before .before .if1 .left), le-leb (a .space .config .n - a .space .config .t) _ (e .before .if3 .left), sym (e .every-proposed2 .ensures) ∙ not-false _ (c .before .if4 .left)))
+    (rw (eq-eqb _ _ (e .before .before .if1 .left), le-leb (a .space .config .n - a .space .config .t) _ (e .before .if3 .left), sym (all-proposed e) ∙ not-false _ (c .before .if4 .left)))
 
 pub bears-spec : {M : Type 1} → statement M
 bears-spec =

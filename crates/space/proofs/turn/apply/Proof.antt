@@ -2,16 +2,13 @@
 use borrow.Author.Needs.{needs}
 use mathlib.Core.Path.{_≡_, sym, ap, _∙_}
 use native.Mathlib.Omega.{arith}
-use mathlib.Core.Bool.{true, cond}
+use mathlib.Core.Bool.{true}
 use borrow.Author.Tests.{le-leb, lt-leb, not-true, not-false}
-use Rattle.space.specs.Calls.{effect}
-use Rattle.space.specs.Policies.{permits}
+use Rattle.space.specs.Policies.{verdict}
 use Rattle.space.specs.Spaces.{held, wellFormed}
-use Rattle.space.specs.Turns as turns
-use Rattle.space.specs.Turns.{performed, callStep, faultStep, applied}
+use Rattle.space.specs.Turns.{verdictStep, callStep, faultStep, applied}
 use Rattle.space.proofs.ConfigLaws.{sound-rule}
 use Rattle.space.proofs.SpaceRules.{formed-sound, formed-few}
-use Rattle.tuple.specs.declared.refusal.Refusal.the-variants.{Denied}
 use Rattle.space.proofs.turn.apply.Statement.{statement}
 use Rattle.space.proofs.turn.apply.Tie as tie
 
@@ -53,12 +50,17 @@ asked c =
     faulted f ∙ ap (faultStep (a .space) (a .call)) (c .enum-told .given .1)
 
 known : (c : tie.Else3) → let a = c .before .before .before .before .before .before .before .before .before .before .args in
-    applied (a .space) (a .call)
-    ≡ cond (permits (a .space .config) (held (a .space)) (a .call)) (performed (a .space .config) (effect (held (a .space)) (a .call))) (turns.refused (a .space) Denied)
+    applied (a .space) (a .call) ≡ verdictStep (a .space) (a .call) (verdict (a .space .config) (held (a .space)) (a .call))
 known c =
     let e = c .before .before .before in
     let a = e .before .before .before .before .before .before .before .args in
     asked (e .before .before) ∙ rw (le-leb 1 (a .call .process) (e .if2 .left), le-leb (a .call .process) (a .space .config .n) (c .if3 .left))
+
+judged : (c : tie.After-verdict) → let a = c .before .before .before .before .before .before .before .before .before .before .before .args in
+    applied (a .space) (a .call) ≡ verdictStep (a .space) (a .call) (c .verdict .result)
+judged c =
+    let a = c .before .before .before .before .before .before .before .before .before .before .before .args in
+    known (c .before) ∙ ap (verdictStep (a .space) (a .call)) (sym (c .verdict .ensures))
 
 returns-2 : tie.Need-returns-2
 returns-2 c =
@@ -91,28 +93,37 @@ returns-4 c =
     c .refused4 .ensures
     ∙ sym (asked (e .before .before) ∙ rw (le-leb 1 (a .call .process) (e .if2 .left), lt-leb (a .call .process) (a .space .config .n) (c .before .if3 .taken)))
 
-permits-requires : tie.Need-permits-requires
-permits-requires c κs =
+verdict-requires : tie.Need-verdict-requires
+verdict-requires c κs =
     let w = c .before .before .before .before .before .before .before .before in
     let a = w .before .before .args in
     let sound = sound-rule (a .space .config) .0 (formed-sound (a .space) (formed w)) in
     (formed-few (a .space) (formed w), (sound .1, omega (arith, sound .2)))
+
+enum-known-refusal-2 : tie.Need-enum-known-refusal-2
+enum-known-refusal-2 c = search needs
 
 refused-requires-5 : tie.Need-refused-requires-5
 refused-requires-5 c κs = search needs
 
 returns-5 : tie.Need-returns-5
 returns-5 c =
-    let p = c .before .before in
-    c .refused5 .ensures ∙ sym (known (p .before) ∙ rw (sym (p .permits .ensures) ∙ not-true _ (c .before .if4 .taken)))
+    let v = c .before .before .before .before in
+    let a = v .before .before .before .before .before .before .before .before .before .before .before .args in
+    c .refused5 .ensures ∙ sym (judged v ∙ ap (verdictStep (a .space) (a .call)) (c .before .before .refusal2 .given .1))
+
+enum-told-2 : tie.Need-enum-told-2
+enum-told-2 c = search needs
 
 perform-requires : tie.Need-perform-requires
-perform-requires c κs = formed (c .before .before .before .before .before .before .before .before .before .before)
+perform-requires c κs = formed (c .before .before .before .before .before .before .before .before .before .before .before)
 
 returns-6 : tie.Need-returns-6
 returns-6 c =
-    let p = c .before .before in
-    c .perform .ensures ∙ sym (known (p .before) ∙ rw (sym (p .permits .ensures) ∙ not-false _ (c .before .if4 .left)))
+    let e = c .before in
+    let v = e .before .before in
+    let a = v .before .before .before .before .before .before .before .before .before .before .before .args in
+    c .perform .ensures ∙ sym (judged v ∙ ap (verdictStep (a .space) (a .call)) (e .enum-told2 .given .1))
 
 pub apply-spec : {M : Type 1} → statement M
 apply-spec =
@@ -131,8 +142,10 @@ apply-spec =
     cast-if3
     refused-requires-4
     returns-4
-    permits-requires
+    verdict-requires
+    enum-known-refusal-2
     refused-requires-5
     returns-5
+    enum-told-2
     perform-requires
     returns-6)

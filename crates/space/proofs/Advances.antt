@@ -11,7 +11,7 @@ use Rattle.space.specs.declared.config.Config.{Config}
 use Rattle.space.specs.Configs.{sound}
 use Rattle.space.specs.Proposals.{bottom, processOf, offsetOf, proposes, proposedIn, isTaken}
 use Rattle.space.specs.Shapes.{roundOf}
-use Rattle.space.specs.Spaces.{spaceOf, freshOf}
+use Rattle.space.specs.Spaces.{spaceOf}
 use Rattle.space.specs.Turns.{applied}
 use Rattle.space.proofs.Decisions.{no-proposal}
 use Rattle.space.proofs.Effects.{Proposal, Decision, Out, Cas, Puts, Step, step}
@@ -144,9 +144,3 @@ advanced tidy (full puts none) = absurd (omega (arith, room tidy puts))
 pub advance : (config : Config) → sound config ≡ true → 1 ≤ config .policy → (tuples : List Tuple) → Tidy config tuples → (call : Call)
     → Advance config tuples call
 advance config safe strict tuples tidy call = advanced tidy (step config safe strict tuples call)
-
--- ---- the first space
-
-pub fresh : (config : Config) → sound config ≡ true → freshOf config .space ≡ spaceOf config []
-unfolding freshOf
-fresh config safe = rw safe

@@ -34,19 +34,19 @@ module _ (space : Space) (call : Call) where
   steps-denied : {after : Applied} → Steps space call after → after .reply .outcome ≡ Refused (refusal 7) → Denied space call
   steps-denied (Steps.refuses why low) r = let same : why ≡ refusal 7 = cc in absurd (omega (arith, rw same at low))
   steps-denied (Steps.denies d) r = d
-  steps-denied (Steps.obeys formed sound p) r =
+  steps-denied (Steps.obeys formed sound known p) r =
       let same = moves-refused (refusal 7) (moves (held space) call sound) r .0 in absurd (omega (arith, ap numberOf same))
 
   steps-unchanged : {after : Applied} (why : Refusal) → Typed space → Steps space call after → after .reply .outcome ≡ Refused why → after .space ≡ space
   steps-unchanged why typed (Steps.refuses _ low) r = refl
   steps-unchanged why typed (Steps.denies d) r = refl
-  steps-unchanged why typed (Steps.obeys formed sound p) r =
+  steps-unchanged why typed (Steps.obeys formed sound known p) r =
       ap (spaceOf (space .config)) (moves-refused why (moves (held space) call sound) r .1) ∙ formed-same space formed typed
 
   steps-kept : {after : Applied} → wellFormed space ≡ true → Steps space call after → wellFormed (after .space) ≡ true
   steps-kept formed (Steps.refuses why low) = formed
   steps-kept formed (Steps.denies d) = formed
-  steps-kept formed (Steps.obeys _ sound p) =
+  steps-kept formed (Steps.obeys _ sound known p) =
       formed-of (space .config) (effect (held space) call .tuples) (formed-sound space formed)
       (moves-lawful sound (held-lawful space formed) (moves (held space) call sound))
 

@@ -126,12 +126,12 @@ module _ (tuples : List Tuple) (call : Call) where
 
 -- ---- what they stay
 
-puts-uses : {tuples : List Tuple} {call : Call} {how : Outcome} → Puts tuples call how → usesEntry (call .code) ≡ true
+pub puts-uses : {tuples : List Tuple} {call : Call} {how : Outcome} → Puts tuples call how → usesEntry (call .code) ≡ true
 unfolding usesEntry
 puts-uses (by-out e) = rw e
 puts-uses (by-cas e n) = rw e
 
-entry-sound : (call : Call) → callFault call ≡ Absent → usesEntry (call .code) ≡ true → isEntry (call .entry) ≡ true
+pub entry-sound : (call : Call) → callFault call ≡ Absent → usesEntry (call .code) ≡ true → isEntry (call .entry) ≡ true
 unfolding isEntry partFault
 entry-sound call sound used = let part = rw used at (call-sound call sound .entry) in rw (part .fault, part .rest)
 
@@ -157,15 +157,17 @@ moves-lawful {tuples} sound lawful (takes i e inside) =
 pub data Steps (space : Space) (call : Call) : Applied → Type 0 where
   refuses : (why : Refusal) → numberOf why ≤ 6 → Steps space call (refused space why)
   denies : Denied space call → Steps space call (refused space (refusal 7))
-  obeys : wellFormed space ≡ true → callFault call ≡ Absent → permits (space .config) (held space) call ≡ true
+  obeys : wellFormed space ≡ true → callFault call ≡ Absent → (1 ≤ call .process) × (call .process ≤ space .config .n)
+      → permits (space .config) (held space) call ≡ true
       → Steps space call (performed (space .config) (effect (held space) call))
 
 module _ (space : Space) (call : Call) where
   call-steps : wellFormed space ≡ true → callFault call ≡ Absent → Steps space call (callStep space call)
   call-steps formed sound =
       cases (leb 1 (call .process) && leb (call .process) (space .config .n))
-      (λ k. cases (permits (space .config) (held space) call) (λ p. rw (k, p) (obeys formed sound p))
-      (λ p. rw (k, p) (denies (record { formed = formed; sound = sound; known = between 1 (call .process) (space .config .n) k; forbidden = p }))))
+      (λ k. let known = between 1 (call .process) (space .config .n) k in
+      cases (permits (space .config) (held space) call) (λ p. rw (k, p) (obeys formed sound known p))
+      (λ p. rw (k, p) (denies (record { formed = formed; sound = sound; known = known; forbidden = p }))))
       (λ k. rw k (refuses (refusal 6) (omega arith)))
 
   fault-steps : wellFormed space ≡ true → (fault : Fault) → callFault call ≡ fault → Early fault → Steps space call (faultStep space call fault)

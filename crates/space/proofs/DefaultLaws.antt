@@ -15,12 +15,13 @@ use Rattle.space.specs.RunLaws.{lastOf, after, last, OwnOut, Borne, Defa
 use Rattle.space.specs.Shapes.{isProposal, isDecision, roundOf}
 use Rattle.space.specs.Spaces.{held, spaceOf}
 use Rattle.space.specs.Turns.{Turn, applied, turnsFrom, turns}
-use Rattle.space.proofs.Advances.{Kind, Tidy, tidy-none, Put, Advance, advance, fresh}
+use Rattle.space.proofs.Advances.{Kind, Tidy, tidy-none, Put, Advance, advance}
 use Rattle.space.proofs.Advances.Kind.{proposal, decision}
 use Rattle.space.proofs.Decisions.{no-proposal}
 use Rattle.space.proofs.Effects.{Puts}
 use Rattle.space.proofs.Effects.Puts.{proposes, decided}
 use Rattle.space.proofs.Keys.{key}
+use Rattle.space.proofs.RunSteps.{fresh-space}
 use Rattle.tuple.specs.declared.field.Tuple.{Tuple}
 use Rattle.tuple.specs.declared.field.Call.{Call}
 use Rattle.tuple.specs.declared.reply.Outcome.{Outcome}
@@ -101,9 +102,9 @@ module _ (config : Config) (safe : sound config ≡ true) (two : config .policy 
   unfolding turns lastOf turnsFrom
   start =
       record {
-        space = fresh config safe;
+        space = fresh-space config safe;
         split = refl;
-        occurs = λ turn m. rw (fresh config safe) m;
+        occurs = λ turn m. rw (fresh-space config safe) m;
         tidy = tidy-none config;
         told = λ tuple m. absurd (List·Memᴰ·not-nil m);
       }

@@ -1,43 +1,41 @@
 -- What a call does under policies 1 and 2: nothing changes, or a proposal or a decision is put that the policy asks for.
 use mathlib.Core.Path.{_≡_, refl, sym, _∙_}
-use Prim.Native.Nat.{ℕ, zero, suc, _-_, _/_, _≤_, _<_}
+use Prim.Native.Nat.{ℕ, _≤_, _<_}
 use native.Mathlib.Omega.{arith}
-use mathlib.Core.Bool.{Bool, true, false, cond, not, _&&_, _||_, and-eq-true-iff}
+use mathlib.Core.Bool.{true, false, not, and-eq-true-iff}
 use mathlib.Core.List.{List, [], _∷_, _++_}
-use lib.ListN.{length, take, getD, replicate}
-use lib.Seq.{take-append-seam}
-use lib.Dec.{leb, ltb, eqb}
-use borrow.Author.Tests.{ltb-true, ltb-false, leb-true, eqb-true, eqb-false, not-true, eq-eqb, ne-eqb}
+use lib.ListN.{length, getD}
+use lib.Dec.{eqb}
+use borrow.Author.Tests.{ltb-true, eqb-true, not-true, eq-eqb, ne-eqb}
 use borrow.Table.Steps.{cases}
 use Rattle.space.specs.declared.config.Config.{Config}
-use Rattle.space.specs.declared.space.Space.{Space}
 use Rattle.space.specs.declared.space.Applied.{Applied}
-use Rattle.space.specs.Calls.{Effect, inserted, rdpEffect, casEffect, effect}
-use Rattle.space.specs.Configs.{processes, rounds, policies, sound}
+use Rattle.space.specs.Configs.{processes, rounds, sound}
 use Rattle.space.specs.Policies.{weak, isOwnProposal, isFree, isDecisionCall, bears, default, permits}
 use Rattle.space.specs.Proposals.{bottom, processOf, offsetOf, isTaken}
-use Rattle.space.specs.Shapes.{field, roundOf, inRounds, sameRound, isProposal, isWeakTemplate, isWeakEntry, isDecisionTemplate, isDecision}
-use Rattle.space.specs.Spaces.{held, spaceOf, wellFormed}
-use Rattle.space.specs.Turns.{refused, performed, verdictStep, faultStep, applied}
-use Rattle.space.proofs.Decisions.{decides, asks, four, within-fields, proposal-parts, round-match}
-use Rattle.tuple.specs.declared.fault.Fault.{Fault}
-use Rattle.tuple.specs.declared.fault.Fault.the-variants.{Absent, Present}
-use Rattle.tuple.specs.declared.field.Field.{Field}
+use Rattle.space.specs.Shapes.{roundOf, inRounds, sameRound, isProposal, isWeakTemplate, isWeakEntry, isDecisionTemplate, isDecision}
+use Rattle.space.specs.Spaces.{held, spaceOf}
+use Rattle.space.specs.Turns.{applied}
+use Rattle.space.proofs.CallSteps.{Puts as Enters, Moves, moves, Steps, steps, puts-uses, entry-sound}
+use Rattle.space.proofs.CallSteps.Puts.{by-out, by-cas}
+use Rattle.space.proofs.CallSteps.Moves.{adds, reads, lacks, keeps, takes}
+use Rattle.space.proofs.CallSteps.Steps.{refuses, denies, obeys}
+use Rattle.space.proofs.ConfigLaws.{sound-rule}
+use Rattle.space.proofs.Decisions.{decides, asks, four, round-match}
+use Rattle.space.proofs.PolicyLaws.{small-offset}
+use Rattle.space.proofs.SpaceRules.{held-of}
+use Rattle.tuple.specs.declared.fault.Fault.the-variants.{Absent}
 use Rattle.tuple.specs.declared.field.Tuple.{Tuple}
 use Rattle.tuple.specs.declared.field.Call.{Call}
-use Rattle.tuple.specs.declared.matching.Found.{Found}
-use Rattle.tuple.specs.declared.matching.Found.the-variants.{At, Nowhere}
-use Rattle.tuple.specs.declared.refusal.Refusal.{Refusal}
-use Rattle.tuple.specs.declared.refusal.Refusal.the-variants.{Beyond, Unknown, Misshapen, Full}
+use Rattle.tuple.specs.declared.matching.Found.the-variants.{Nowhere}
+use Rattle.tuple.specs.declared.refusal.Refusal.the-variants.{Full}
 use Rattle.tuple.specs.declared.reply.Outcome.{Outcome}
 use Rattle.tuple.specs.declared.reply.Outcome.the-variants as outcome
-use Rattle.tuple.specs.Faults.{unless, first, knownHead, isDefined, fieldFault, fieldsFault, tupleFault, partFault, usesTemplate, usesEntry, usedFault, restBlank, callFault}
-use Rattle.tuple.specs.Refusals.{refusal}
-use Rattle.tuple.specs.Fields.{offset, defined, out, rdp, inp, cas, places, capacity, largestOf, blankField, blankTuple}
+use Rattle.tuple.specs.Faults.{callFault}
+use Rattle.tuple.specs.Fields.{out, inp, cas, capacity, blankTuple}
 use Rattle.tuple.specs.Matching.{oldestOf}
 use Rattle.tuple.specs.Offsets.{largestCode}
 use Rattle.tuple.proofs.MatchRules.{oldest-rule}
-use Rattle.tuple.proofs.NoFault.{between, SoundField, fields-sound, tuple-sound, call-sound}
 
 -- ---- what is put
 
@@ -75,77 +73,7 @@ pub data Step (config : Config) (tuples : List Tuple) (call : Call) (done : Appl
       → Step config tuples call done
   full : {how : Outcome} → Puts config tuples call how → capacity ≤ length tuples → Step config tuples call done
 
--- ---- no fault of a call is that the space is full
-
-data Early : Fault → Type 0 where
-  absent : Early Absent
-  present : {why : Refusal} → (why ≡ Full → ⊥) → Early (Present why)
-
-early-unless : (test : Bool) {why : Refusal} {next : Fault} → (why ≡ Full → ⊥) → Early next → Early (unless test why next)
-early-unless true h next = next
-early-unless false h next = present h
-
-early-first : {fault next : Fault} → Early fault → Early next → Early (first fault next)
-early-first absent next = next
-early-first (present h) next = present h
-
-beyond : Beyond ≡ Full → ⊥
-beyond e = let z : _≡_ {A = ℕ} 0 1 = cc in omega arith
-
-unknown : Unknown ≡ Full → ⊥
-unknown e = let z : _≡_ {A = ℕ} 0 1 = cc in omega arith
-
-misshapen : Misshapen ≡ Full → ⊥
-misshapen e = let z : _≡_ {A = ℕ} 0 1 = cc in omega arith
-
-early-fields : (entry : Bool) (fields : List Field) → Early (fieldsFault entry fields)
-unfolding fieldsFault fieldFault
-early-fields entry [] = absent
-early-fields entry (field ∷ fields) =
-    early-first
-    (early-unless (knownHead field) unknown
-    (early-unless (not entry || isDefined field) misshapen
-    (early-unless (not (isDefined field) || leb (field .value) (largestOf (field .kind))) beyond absent)))
-    (early-fields entry fields)
-
-early-part : (tuple : Tuple) (used entry : Bool) → Early (partFault tuple used entry)
-unfolding partFault tupleFault
-early-part tuple true entry = early-unless (leb 1 (tuple .count) && leb (tuple .count) places) misshapen (early-fields entry (take (tuple .count) (tuple .fields)))
-early-part tuple false entry = absent
-
-early-call : (call : Call) → Early (callFault call)
-unfolding callFault usedFault
-early-call call =
-    early-first
-    (early-unless (leb out (call .code) && leb (call .code) cas) unknown
-    (early-first (early-part (call .template) (usesTemplate (call .code)) false) (early-part (call .entry) (usesEntry (call .code)) true)))
-    (early-unless (restBlank (call .template) (usesTemplate (call .code)) && restBlank (call .entry) (usesEntry (call .code))) misshapen absent)
-
--- ---- the entry has no fault
-
-field-at : (entry : Bool) (n : ℕ) (fields : List Field) (i : ℕ) → i < n → i < length fields → fieldsFault entry (take n fields) ≡ Absent
-    → SoundField entry (getD fields i blankField)
-field-at entry zero fields i b l h = absurd (omega arith)
-field-at entry (suc n) [] i b l h = absurd (omega arith)
-field-at entry (suc n) (first ∷ fields) zero b l h = fields-sound entry first (take n fields) h .0
-field-at entry (suc n) (first ∷ fields) (suc i) b l h =
-    field-at entry n fields i (omega arith) (omega arith) (fields-sound entry first (take n fields) h .1)
-
-small-offset : (call : Call) → callFault call ≡ Absent → call .code ≡ out → isProposal (call .entry) ≡ true → offsetOf (call .entry) ≤ largestCode
-unfolding partFault usesEntry largestOf
-small-offset call fault code h =
-    let parts = proposal-parts (call .entry) h in
-    let tuple = tuple-sound true (call .entry) (rw (eq-eqb (call .code) out code) at (call-sound call fault .entry .fault)) in
-    let last = and-eq-true-iff (eqb (field (call .entry) 3 .kind) offset) (eqb (field (call .entry) 3 .state) defined) .0 (parts .2) in
-    let sound = field-at true (call .entry .count) (call .entry .fields) 3 (omega arith) (within-fields (call .entry) 3 offset defined (omega arith) (parts .2)) (tuple .fields) in
-    rw (eqb-true (field (call .entry) 3 .kind) offset (last .0)) at (sound .small (last .1))
-
 -- ---- what the policies permit
-
-few-processes : (config : Config) → sound config ≡ true → config .n ≤ processes
-unfolding sound
-few-processes config h =
-    leb-true (config .n) processes (four (leb 1 (config .n)) (leb (config .n) processes) (leb (config .t) ((config .n - 1) / 3)) (leb (config .policy) policies) h .1)
 
 module _ (config : Config) (strict : 1 ≤ config .policy) (tuples : List Tuple) (call : Call) where
   by-policy : {X : Type 0} → permits config tuples call ≡ true
@@ -189,7 +117,7 @@ module _ (config : Config) (strict : 1 ≤ config .policy) (tuples : List Tuple)
           round = ltb-true (roundOf (call .entry)) rounds (own .1);
           some = omega arith;
           few = omega arith;
-          small = small-offset call fault code (own .0);
+          small = small-offset (call .entry) (entry-sound call fault (puts-uses {tuples = tuples} {call = call} (by-out code))) (own .0);
         };
         own = same;
         free = not-true (isTaken tuples (roundOf (call .entry)) (processOf (call .entry))) (parts .1);
@@ -226,58 +154,28 @@ module _ (config : Config) (strict : 1 ≤ config .policy) (tuples : List Tuple)
 
 -- ---- what a call does
 
-picked : {X : Type 0} (P : X → Type 0) (t : Bool) {a b : X} → (t ≡ true → P a) → (t ≡ false → P b) → P (cond t a b)
-picked P true f g = f refl
-picked P false f g = g refl
-
-judged : (P : Applied → Type 0) (space : Space) (call : Call) (t : Bool) → (t ≡ true → P (performed (space .config) (effect (held space) call)))
-    → (t ≡ false → P (refused space (refusal 7))) → P (verdictStep space call (unless t (refusal 7) Absent))
-judged P space call true f g = f refl
-judged P space call false f g = g refl
-
 module _ (config : Config) (safe : sound config ≡ true) (strict : 1 ≤ config .policy) (tuples : List Tuple) (call : Call) where
-  Does : Effect → Type 0
-  Does done = Step config tuples call (performed config done)
+  -- a call that is obeyed
+  module _ (fault : callFault call ≡ Absent) (known : (1 ≤ call .process) × (call .process ≤ config .n)) (h : permits config tuples call ≡ true) where
+    asked : {how : Outcome} → Enters tuples call how → Puts config tuples call how
+    asked (by-out e) = proposes (puts-out config strict tuples call (sound-rule config .0 safe .1) (known .0) (known .1) fault h e)
+    asked (by-cas e none) = decided (puts-cas config strict tuples call h e none)
 
-  insert-step : {how : Outcome} → Puts config tuples call how → Does (inserted how tuples (call .entry))
-  unfolding Does
-  insert-step puts = picked Does (ltb (length tuples) capacity) (λ e. put puts refl refl) (λ e. full puts (ltb-false (length tuples) capacity e))
+    obeyed : {how : Outcome} {left : List Tuple} {done : Applied} → Moves tuples call how left → done .reply .outcome ≡ how → done .space ≡ spaceOf config left
+        → Step config tuples call done
+    obeyed (adds enters room) answers same = put (asked enters) answers same
+    obeyed (Moves.full enters none) answers same = full (asked enters) none
+    obeyed (reads e) answers same = kept (λ f. let z : _≡_ {A = ℕ} 0 1 = cc in omega arith) same
+    obeyed lacks answers same = kept (λ f. let z : _≡_ {A = ℕ} 0 1 = cc in omega arith) same
+    obeyed keeps answers same = kept (λ f. let z : _≡_ {A = ℕ} 0 1 = cc in omega arith) same
+    obeyed (takes i e inside) answers same = absurd (no-inp config strict tuples call h e)
 
-  rdp-step : (found : Found) → Does (rdpEffect tuples found)
-  unfolding Does
-  rdp-step (At i) = kept (λ e. let z : _≡_ {A = ℕ} 0 1 = cc in omega arith) refl
-  rdp-step Nowhere = kept (λ e. let z : _≡_ {A = ℕ} 0 1 = cc in omega arith) refl
-
-  cas-step : permits config tuples call ≡ true → call .code ≡ cas → (found : Found) → oldestOf tuples (call .template) ≡ found
-      → Does (casEffect tuples (call .entry) found)
-  unfolding Does
-  cas-step h code (At i) e = kept (λ e. let z : _≡_ {A = ℕ} 0 1 = cc in omega arith) refl
-  cas-step h code Nowhere e = insert-step (decided (puts-cas config strict tuples call h code e))
-
-  effect-step : 1 ≤ call .process → call .process ≤ config .n → callFault call ≡ Absent → permits config tuples call ≡ true → Does (effect tuples call)
-  unfolding effect
-  effect-step low high fault h =
-      picked Does (eqb (call .code) out)
-      (λ e. insert-step (proposes (puts-out config strict tuples call (few-processes config safe) low high fault h (eqb-true _ _ e))))
-      (λ o. picked Does (eqb (call .code) rdp) (λ e. rdp-step (oldestOf tuples (call .template)))
-      (λ r. picked Does (eqb (call .code) inp) (λ e. absurd (no-inp config strict tuples call h (eqb-true _ _ e)))
-      (λ i. let code = call-sound call fault in
-      cas-step h (omega (arith, eqb-false (call .code) out o, eqb-false (call .code) rdp r, eqb-false (call .code) inp i)) (oldestOf tuples (call .template)) refl)))
-
-  fault-step : (fault : Fault) → callFault call ≡ fault → Early fault → Step config tuples call (faultStep (spaceOf config tuples) call fault)
-  unfolding Does
-  fault-step (Present why) fault (present h) = kept (λ e. h (cc)) refl
-  fault-step Absent fault absent =
-      let seam = take-append-seam tuples (replicate (capacity - length tuples) blankTuple) in
-      rw seam
-      (picked (Step config tuples call) (leb 1 (call .process) && leb (call .process) (config .n))
-      (λ k. let known = between 1 (call .process) (config .n) k in
-      judged (Step config tuples call) (spaceOf config tuples) call (permits config tuples call) (λ h. rw seam (effect-step (known .0) (known .1) fault h))
-      (λ h. kept (λ e. let z : _≡_ {A = ℕ} 0 1 = cc in omega arith) refl))
-      (λ k. kept (λ e. let z : _≡_ {A = ℕ} 0 1 = cc in omega arith) refl))
+  stepped : {done : Applied} → Steps (spaceOf config tuples) call done → Step config tuples call done
+  stepped (refuses why low) = kept (λ e. let same : why ≡ Full = cc in omega (arith, rw same at low)) refl
+  stepped (denies d) = kept (λ e. let z : _≡_ {A = ℕ} 0 1 = cc in omega arith) refl
+  stepped (obeys formed fault known p) =
+      let same : held (spaceOf config tuples) ≡ tuples = held-of config tuples in
+      rw same (obeyed fault known (rw same at p) (moves tuples call fault) refl refl)
 
   pub step : Step config tuples call (applied (spaceOf config tuples) call)
-  unfolding applied
-  step =
-      picked (Step config tuples call) (wellFormed (spaceOf config tuples)) (λ w. fault-step (callFault call) refl (early-call call))
-      (λ w. kept (λ e. let z : _≡_ {A = ℕ} 0 1 = cc in omega arith) refl)
+  step = stepped (steps (spaceOf config tuples) call)

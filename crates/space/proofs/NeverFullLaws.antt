@@ -9,7 +9,8 @@ use Rattle.space.specs.Configs.{sound}
 use Rattle.space.specs.RunLaws.{NeverFull}
 use Rattle.space.specs.Spaces.{spaceOf}
 use Rattle.space.specs.Turns.{Turn, applied, turnsFrom, turns}
-use Rattle.space.proofs.Advances.{Tidy, tidy-none, advance, fresh}
+use Rattle.space.proofs.Advances.{Tidy, tidy-none, advance}
+use Rattle.space.proofs.RunSteps.{fresh-space}
 use Rattle.tuple.specs.declared.field.Tuple.{Tuple}
 use Rattle.tuple.specs.declared.field.Call.{Call}
 use Rattle.tuple.specs.declared.refusal.Refusal.the-variants.{Full}
@@ -27,4 +28,4 @@ module _ (config : Config) (safe : sound config ≡ true) (strict : 1 ≤ config
 
 pub never-full : NeverFull
 unfolding turns
-never-full config calls turn safe strict m full = never config safe strict turn full calls [] (tidy-none config) (rw (fresh config safe) at m)
+never-full config calls turn safe strict m full = never config safe strict turn full calls [] (tidy-none config) (rw (fresh-space config safe) at m)

@@ -150,7 +150,7 @@ small-field (suc n) (first ∷ fields) zero sound below d = fields-sound true fi
 small-field (suc n) (first ∷ fields) (suc i) sound below d =
     small-field n fields i (fields-sound true first (take n fields) sound .1) (omega arith) d
 
-small-offset : (tuple : Tuple) → isEntry tuple ≡ true → isProposal tuple ≡ true → offsetOf tuple ≤ largestCode
+pub small-offset : (tuple : Tuple) → isEntry tuple ≡ true → isProposal tuple ≡ true → offsetOf tuple ≤ largestCode
 unfolding isEntry isProposal largestOf
 small-offset tuple entry proposal =
     let sound = tuple-sound true tuple (absent _ (and-eq-true-iff (isAbsent (tupleFault true tuple)) _ .0 entry .0)) in

@@ -48,7 +48,7 @@ module _ {config : Config} {call : Call} where
       record { run = record { tuples = tuples; lawful = lawful; same = refl }; goes = Goes.stays why (omega arith) }
   next-steps {tuples} lawful (Steps.denies d) =
       record { run = record { tuples = tuples; lawful = lawful; same = refl }; goes = Goes.stays (refusal 7) (omega arith) }
-  next-steps {tuples} lawful (Steps.obeys formed faultless p) =
+  next-steps {tuples} lawful (Steps.obeys formed faultless known p) =
       let same : held (spaceOf config tuples) ≡ tuples = held-of config tuples in
       let moved = moves tuples call faultless in
       rw same (record {

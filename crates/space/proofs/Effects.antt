@@ -11,7 +11,9 @@ use borrow.Table.Steps.{cases}
 use Rattle.space.specs.declared.config.Config.{Config}
 use Rattle.space.specs.declared.space.Applied.{Applied}
 use Rattle.space.specs.Configs.{processes, rounds, sound}
-use Rattle.space.specs.Policies.{weak, isOwnProposal, isFree, isDecisionCall, bears, default, permits}
+use Rattle.space.specs.Default.{isOwnProposal, isFree, isDecisionCall, bears, default}
+use Rattle.space.specs.Policies.{permits}
+use Rattle.space.specs.Weak.{weak}
 use Rattle.space.specs.Proposals.{bottom, processOf, offsetOf, isTaken}
 use Rattle.space.specs.Shapes.{roundOf, inRounds, sameRound, isProposal, isWeakTemplate, isWeakEntry, isDecisionTemplate, isDecision}
 use Rattle.space.specs.Spaces.{held, spaceOf}

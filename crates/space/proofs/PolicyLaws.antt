@@ -15,7 +15,9 @@ use Rattle.space.specs.Configs.{rounds}
 use Rattle.space.specs.Members.{within, every}
 use Rattle.space.specs.Proposals.{bottom, leastCode, processOf, offsetOf, proposes, proposedIn, hasProposed, hasProposedSome, isTaken}
 use Rattle.space.specs.Shapes.{field, roundOf, sameRound, isProposal, isWeakTemplate, isWeakEntry, isDecisionTemplate}
-use Rattle.space.specs.Policies.{decidedOf, setOf, weak, isOwnProposal, isFree, isDecisionCall, backers, crowded, bears, default, permits}
+use Rattle.space.specs.Default.{decidedOf, setOf, isOwnProposal, isFree, isDecisionCall, backers, crowded, bears, default}
+use Rattle.space.specs.Policies.{permits}
+use Rattle.space.specs.Weak.{weak}
 use Rattle.space.specs.Laws.{Member, Proposed, Entries, BareRule, WeakRule, OutRule, RdpRule, InpRule, DecisionCall, BearsOffset, BearsBottom, CasOffsetRule, CasBottomRule}
 use Rattle.space.proofs.MemberLaws.{within-rule, every-rule, counted-rule}
 use Rattle.space.proofs.TallyLaws.{tally-rule, same-set}

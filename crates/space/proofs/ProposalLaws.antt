@@ -7,7 +7,7 @@ use mathlib.Core.List.{List}
 use lib.Dec.{eqb}
 use borrow.Author.Tests.{eq-eqb, ne-eqb}
 use Rattle.space.specs.Members.{every, counted}
-use Rattle.space.specs.Policies.{backers}
+use Rattle.space.specs.Default.{backers}
 use Rattle.space.specs.Proposals.{proposedIn, hasProposed}
 use Rattle.tuple.specs.declared.field.Tuple.{Tuple}
 

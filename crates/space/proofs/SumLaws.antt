@@ -9,7 +9,8 @@ use borrow.Table.Steps.{cases}
 use Rattle.space.specs.declared.config.Config.{Config}
 use Rattle.space.specs.declared.space.Space.{Space}
 use Rattle.space.specs.Configs.{sound}
-use Rattle.space.specs.Policies.{default, permits}
+use Rattle.space.specs.Default.{default}
+use Rattle.space.specs.Policies.{permits}
 use Rattle.space.specs.Spaces.{held, wellFormed, freshOf}
 use Rattle.space.specs.Turns.{applied, turnsFrom, turns}
 use Rattle.space.specs.RunLaws.{lastOf, after, put, taken, puts, takes, SumRule, NothingLeaves}

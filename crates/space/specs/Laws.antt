@@ -10,7 +10,8 @@ use Rattle.space.specs.declared.config.Config.{Config}
 use Rattle.space.specs.declared.space.Space.{Space}
 use Rattle.space.specs.Configs.{processes, rounds, policies, sound}
 use Rattle.space.specs.Members.{within, counted}
-use Rattle.space.specs.Policies.{decidedOf, setOf, permits}
+use Rattle.space.specs.Default.{decidedOf, setOf}
+use Rattle.space.specs.Policies.{permits}
 use Rattle.space.specs.Proposals.{bottom, processOf, offsetOf}
 use Rattle.space.specs.Shapes.{roundOf, isProposal, isWeakTemplate, isWeakEntry, isDecisionTemplate, isDecision}
 use Rattle.space.specs.Spaces.{held, wellFormed}

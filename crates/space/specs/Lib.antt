@@ -1,5 +1,6 @@
 pub mod Calls
 pub mod Configs
+pub mod Default
 pub mod Laws
 pub mod Members
 pub mod Policies
@@ -8,3 +9,4 @@ pub mod RunLaws
 pub mod Shapes
 pub mod Spaces
 pub mod Turns
+pub mod Weak

@@ -1,11 +1,13 @@
 // The tuple space: configurations, the four calls, and the policies that permit them.
 mod config;
+mod default;
 mod member;
 mod policy;
 mod proposal;
 mod shape;
 mod space;
 mod turn;
+mod weak;
 
 pub use config::Config;
 pub use space::Applied;

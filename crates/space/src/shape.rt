@@ -1,7 +1,8 @@
 // The shapes of tuples that the policies name.
 ghost use mathlib.Core.Path.{_≡_};
 ghost use mathlib.Core.Bool.{_&&_};
-ghost use Rattle.space.specs.Shapes.{is as is·, says as says·, isProposal, isWeakTemplate, isWeakEntry, isDecisionTemplate, isDecision};
+ghost use Rattle.space.specs.Shapes.{is as is·, says as says·, isProposal, isWeakTemplate, isWeakEntry, isDecisionTemplate, isDecision, sameRound};
+use crate::config::ROUNDS;
 use tuple::COUNT;
 use tuple::DECISION;
 use tuple::DEFINED;
@@ -133,4 +134,18 @@ pub(crate) fn all_four(a: bool, b: bool, c: bool, d: bool) -> bool
         return false;
     }
     if c { d } else { false }
+}
+
+// Whether both tuples of a cas name one round, 0 to 7.
+pub(crate) fn same_round(template: Tuple, entry: Tuple) -> bool
+    ensures { λ r. ⌜ r ≡ sameRound template entry ⌝ }
+{
+    let asked = template.fields[1];
+    let given = entry.fields[1];
+    let round = given.value;
+    if asked.value == round {
+        round < ROUNDS
+    } else {
+        false
+    }
 }

@@ -1,10 +1,10 @@
--- `space::policy::default` meets its contract: its tests are the definition's.
+-- `space::default::default` meets its contract: its tests are the definition's.
 use borrow.Author.Needs.{needs}
 use mathlib.Core.Path.{sym, _∙_}
 use borrow.Author.Tests.{eq-eqb, ne-eqb}
-use Rattle.space.specs.Policies.{default}
-use Rattle.space.proofs.policy.default.Statement.{statement}
-use Rattle.space.proofs.policy.default.Tie as tie
+use Rattle.space.specs.Default.{default}
+use Rattle.space.proofs.default.default.Statement.{statement}
+use Rattle.space.proofs.default.default.Tie as tie
 
 is-own-proposal-requires : tie.Need-is-own-proposal-requires
 is-own-proposal-requires c κs = search needs

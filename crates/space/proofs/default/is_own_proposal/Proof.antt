@@ -1,9 +1,9 @@
--- `space::policy::is_own_proposal` meets its contract: its tests are the definition's.
+-- `space::default::is_own_proposal` meets its contract: its tests are the definition's.
 use borrow.Author.Needs.{needs}
 use mathlib.Core.Path.{_∙_}
-use Rattle.space.specs.Policies.{isOwnProposal}
-use Rattle.space.proofs.policy.is_own_proposal.Statement.{statement}
-use Rattle.space.proofs.policy.is_own_proposal.Tie as tie
+use Rattle.space.specs.Default.{isOwnProposal}
+use Rattle.space.proofs.default.is_own_proposal.Statement.{statement}
+use Rattle.space.proofs.default.is_own_proposal.Tie as tie
 
 element-copy-out-second : tie.Need-element-copy-out-second
 element-copy-out-second c = search needs

@@ -1,9 +1,9 @@
--- `space::policy::weak` meets its contract: its tests are the definition's.
+-- `space::weak::weak` meets its contract: its tests are the definition's.
 use borrow.Author.Needs.{needs}
 use mathlib.Core.Path.{_∙_}
-use Rattle.space.specs.Policies.{weak}
-use Rattle.space.proofs.policy.weak.Statement.{statement}
-use Rattle.space.proofs.policy.weak.Tie as tie
+use Rattle.space.specs.Weak.{weak}
+use Rattle.space.proofs.weak.weak.Statement.{statement}
+use Rattle.space.proofs.weak.weak.Tie as tie
 
 is-weak-template-requires : tie.Need-is-weak-template-requires
 is-weak-template-requires c κs = search needs

@@ -1,11 +1,11 @@
--- `space::policy::is_free` meets its contract: its test is the definition's.
+-- `space::default::is_free` meets its contract: its test is the definition's.
 use borrow.Author.Needs.{needs}
 use mathlib.Core.Path.{ap}
 use mathlib.Core.Bool.{not}
-use Rattle.space.specs.Policies.{isFree}
+use Rattle.space.specs.Default.{isFree}
 use Rattle.space.specs.Proposals.{isTaken}
-use Rattle.space.proofs.policy.is_free.Statement.{statement}
-use Rattle.space.proofs.policy.is_free.Tie as tie
+use Rattle.space.proofs.default.is_free.Statement.{statement}
+use Rattle.space.proofs.default.is_free.Tie as tie
 
 element-copy-out-second : tie.Need-element-copy-out-second
 element-copy-out-second c = search needs

@@ -1,8 +1,8 @@
--- `space::policy::same_round` meets its contract: its tests are the definition's.
+-- `space::shape::same_round` meets its contract: its tests are the definition's.
 use borrow.Author.Needs.{needs}
 use borrow.Author.Tests.{eq-eqb, ne-eqb}
-use Rattle.space.proofs.policy.same_round.Statement.{statement}
-use Rattle.space.proofs.policy.same_round.Tie as tie
+use Rattle.space.proofs.shape.same_round.Statement.{statement}
+use Rattle.space.proofs.shape.same_round.Tie as tie
 
 element-copy-out-asked : tie.Need-element-copy-out-asked
 element-copy-out-asked c = search needs

@@ -1,9 +1,9 @@
--- `space::policy::is_decision_call` meets its contract: its tests are the definition's.
+-- `space::default::is_decision_call` meets its contract: its tests are the definition's.
 use borrow.Author.Needs.{needs}
 use mathlib.Core.Path.{_∙_}
-use Rattle.space.specs.Policies.{isDecisionCall}
-use Rattle.space.proofs.policy.is_decision_call.Statement.{statement}
-use Rattle.space.proofs.policy.is_decision_call.Tie as tie
+use Rattle.space.specs.Default.{isDecisionCall}
+use Rattle.space.proofs.default.is_decision_call.Statement.{statement}
+use Rattle.space.proofs.default.is_decision_call.Tie as tie
 
 element-copy-out-fourth : tie.Need-element-copy-out-fourth
 element-copy-out-fourth c = search needs

@@ -1,17 +1,17 @@
--- `space::policy::bears` meets its contract: its tests are the definition's.
+-- `space::default::bears` meets its contract: its tests are the definition's.
 use borrow.Author.Needs.{needs}
 use mathlib.Core.Path.{_≡_, sym, ap, _∙_}
 use Prim.Native.Nat.{_-_}
 use mathlib.Core.Bool.{not}
 use borrow.Author.Tests.{le-leb, lt-leb, eq-eqb, ne-eqb, not-true, not-false}
 use Rattle.space.specs.Members.{every}
-use Rattle.space.specs.Policies.{setOf, bears}
+use Rattle.space.specs.Default.{setOf, bears}
 use Rattle.space.specs.Proposals.{hasProposedSome}
 use Rattle.space.specs.Shapes.{roundOf}
 use Rattle.space.specs.Spaces.{held}
 use Rattle.space.proofs.ProposalLaws.{every-offset}
-use Rattle.space.proofs.policy.bears.Statement.{statement}
-use Rattle.space.proofs.policy.bears.Tie as tie
+use Rattle.space.proofs.default.bears.Statement.{statement}
+use Rattle.space.proofs.default.bears.Tie as tie
 
 element-copy-out-second : tie.Need-element-copy-out-second
 element-copy-out-second c = search needs

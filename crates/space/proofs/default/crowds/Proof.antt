@@ -1,4 +1,4 @@
--- `space::policy::crowds` meets its contract: its tests are the definition's; nobody has proposed bottom.
+-- `space::default::crowds` meets its contract: its tests are the definition's; nobody has proposed bottom.
 use borrow.Author.Needs.{needs}
 use mathlib.Core.Path.{sym, ap, _∙_}
 use native.Mathlib.Omega.{arith}
@@ -6,8 +6,8 @@ use lib.Dec.{ltb}
 use borrow.Author.Tests.{le-ltb, eq-eqb, ne-eqb, not-true, not-false}
 use Rattle.space.specs.Spaces.{held}
 use Rattle.space.proofs.ProposalLaws.{backers-bottom, backers-offset}
-use Rattle.space.proofs.policy.crowds.Statement.{statement}
-use Rattle.space.proofs.policy.crowds.Tie as tie
+use Rattle.space.proofs.default.crowds.Statement.{statement}
+use Rattle.space.proofs.default.crowds.Tie as tie
 
 element-copy-out-second : tie.Need-element-copy-out-second
 element-copy-out-second c = search needs

@@ -1,4 +1,4 @@
--- `space::policy::crowded` meets its contract. The loop's invariant: no tuple passed crowds, so that those left decide.
+-- `space::default::crowded` meets its contract. The loop's invariant: no tuple passed crowds, so that those left decide.
 use borrow.Author.Needs.{needs}
 use mathlib.Core.Path.{_≡_, refl, sym, _∙_}
 use Prim.Native.Nat.{_-_, _≤_, _<_}
@@ -7,15 +7,15 @@ use mathlib.Core.Bool.{Bool, _&&_}
 use mathlib.Core.List.{List}
 use lib.ListN.{length, take, drop}
 use lib.Dec.{ltb, eqb}
-use Rattle.space.specs.Policies.{backers, crowded}
+use Rattle.space.specs.Default.{backers, crowded}
 use Rattle.space.specs.Proposals.{offsetOf}
 use Rattle.space.specs.Shapes.{roundOf, isProposal}
 use Rattle.space.specs.Spaces.{held}
 use Rattle.space.proofs.Lengths.{full}
 use Rattle.tuple.specs.declared.field.Tuple.{Tuple}
 use Rattle.tuple.proofs.Lists.{some-here, some-more, some-none}
-use Rattle.space.proofs.policy.crowded.Statement.{statement}
-use Rattle.space.proofs.policy.crowded.Tie as tie
+use Rattle.space.proofs.default.crowded.Statement.{statement}
+use Rattle.space.proofs.default.crowded.Tie as tie
 
 abbrev Inv-loop : tie.InvT-loop
 Inv-loop round set space count i₀ i =

@@ -194,7 +194,8 @@ free-rule tuples entry entries =
           let most = small-offset tuple (entries tuple stands) shape in
           let s : Standing tuples round process bottom largestCode =
           (tuple, stands, record { shape = shape; in-round = in-round; by = by; least = omega arith; most = most }) in
-          false≢true (rw (standing-proposed round process bottom largestCode tuples s) at h),
+          let taken : isTaken tuples round process ≡ true = standing-proposed round process bottom largestCode tuples s in
+          false≢true (rw taken at h),
       λ free.
           cases (isTaken tuples round process)
           (λ taken. let s = proposed-standing round process bottom largestCode tuples taken in

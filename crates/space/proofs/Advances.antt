@@ -1,15 +1,14 @@
 -- Under policies 1 and 2 every tuple of a run is a proposal or a decision, no two have one key, and so a call that puts one finds room.
-use mathlib.Core.Path.{_≡_, refl, sym, _∙_}
+use mathlib.Core.Path.{_≡_, sym, _∙_}
 use mathlib.Core.Logic.{_⊎_, inl, inr, ⊎-elim}
 use Prim.Native.Nat.{ℕ, _≤_, _<_}
 use native.Mathlib.Omega.{arith}
-use mathlib.Core.Bool.{Bool, true, false, _||_}
-use mathlib.Core.List.{List, [], _∷_, _++_, List·Memᴰ, List·Memᴰ·head, List·Memᴰ·tail, List·Memᴰ·not-nil, List·Memᴰ·append-cases, List·Memᴰ·eq-of-singleton}
+use mathlib.Core.Bool.{true, false≢true}
+use mathlib.Core.List.{List, [], _∷_, _++_, List·Memᴰ, List·Memᴰ·not-nil, List·Memᴰ·append-cases, List·Memᴰ·eq-of-singleton}
 use lib.ListN.{length, getD, length-append}
-use borrow.Author.Tests.{eq-eqb, le-leb}
 use Rattle.space.specs.declared.config.Config.{Config}
 use Rattle.space.specs.Configs.{sound}
-use Rattle.space.specs.Proposals.{bottom, processOf, offsetOf, proposes, proposedIn, isTaken}
+use Rattle.space.specs.Proposals.{bottom, processOf, isTaken}
 use Rattle.space.specs.Shapes.{roundOf}
 use Rattle.space.specs.Spaces.{spaceOf}
 use Rattle.space.specs.Turns.{applied}
@@ -17,6 +16,7 @@ use Rattle.space.proofs.Decisions.{no-proposal}
 use Rattle.space.proofs.Effects.{Proposal, Decision, Out, Cas, Puts, Step, step}
 use Rattle.space.proofs.Effects.Puts.{proposes as of-proposal, decided}
 use Rattle.space.proofs.Effects.Step.{kept, put, full}
+use Rattle.space.proofs.PolicyLaws.{standing-proposed}
 use Rattle.space.proofs.Keys.{at-most, key, keyAt, Apart, Unused, apart-more, stands}
 use Rattle.tuple.specs.declared.field.Tuple.{Tuple}
 use Rattle.tuple.specs.declared.field.Call.{Call}
@@ -47,31 +47,15 @@ module _ {config : Config} {tuple : Tuple} where
 
 -- ---- a new tuple has a new key
 
-either : (a b : Bool) → a || b ≡ false → (a ≡ false) × (b ≡ false)
-either true b h = let z : _≡_ {A = ℕ} 0 1 = cc in absurd (omega arith)
-either false b h = (refl, h)
-
-untaken : {tuple : Tuple} {tuples : List Tuple} (round process low high : ℕ) → List·Memᴰ tuple tuples → proposedIn tuples round process low high ≡ false
-    → proposes round process low high tuple ≡ false
-unfolding proposedIn
-untaken round process low high (List·Memᴰ·head {x = first} e) h = rw e (either (proposes round process low high first) _ h .0)
-untaken round process low high (List·Memᴰ·tail {x = first} m) h = untaken round process low high m (either (proposes round process low high first) _ h .1)
-
-proposed : (round process : ℕ) (tuple : Tuple) → Proposal tuple → roundOf tuple ≡ round → processOf tuple ≡ process
-    → proposes round process bottom largestCode tuple ≡ true
-unfolding proposes
-proposed round process tuple p r q =
-    rw (p .shape, eq-eqb (roundOf tuple) round r, eq-eqb (processOf tuple) process q, le-leb bottom (offsetOf tuple) (omega arith), le-leb (offsetOf tuple) largestCode (p .small))
-
 module _ {config : Config} {tuples : List Tuple} {call : Call} where
   out-apart : (tuple : Tuple) → List·Memᴰ tuple tuples → Kind config tuple → Out tuples call → key tuple ≡ key (call .entry) → ⊥
   unfolding key isTaken
   out-apart tuple m (proposal p) o same =
       let keys = rw (p .shape, o .entry .shape) at same in
       let e = o .entry in
-      let free = untaken (roundOf (call .entry)) (processOf (call .entry)) bottom largestCode m (o .free) in
-      let there = proposed (roundOf (call .entry)) (processOf (call .entry)) tuple p (omega arith) (omega arith) in
-      let z : _≡_ {A = ℕ} 0 1 = cc in omega arith
+      let there = standing-proposed (roundOf (call .entry)) (processOf (call .entry)) bottom largestCode tuples
+      (tuple, m, record { shape = p .shape; in-round = omega arith; by = omega arith; least = omega arith; most = p .small }) in
+      false≢true (sym (o .free) ∙ there)
   out-apart tuple m (decision d) o same =
       let e = o .entry in
       omega (arith, rw (no-proposal config tuple (d .shape), o .entry .shape) at same)

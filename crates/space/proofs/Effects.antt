@@ -13,18 +13,18 @@ use Rattle.space.specs.declared.space.Applied.{Applied}
 use Rattle.space.specs.Configs.{processes, rounds, sound}
 use Rattle.space.specs.Default.{isOwnProposal, isFree, isDecisionCall, bears, default}
 use Rattle.space.specs.Policies.{permits}
-use Rattle.space.specs.Weak.{weak}
 use Rattle.space.specs.Proposals.{bottom, processOf, offsetOf, isTaken}
-use Rattle.space.specs.Shapes.{roundOf, inRounds, sameRound, isProposal, isWeakTemplate, isWeakEntry, isDecisionTemplate, isDecision}
+use Rattle.space.specs.Shapes.{roundOf, inRounds, isProposal}
 use Rattle.space.specs.Spaces.{held, spaceOf}
 use Rattle.space.specs.Turns.{applied}
+use Rattle.space.specs.Laws.{WeakCall}
 use Rattle.space.proofs.CallSteps.{Puts as Enters, Moves, moves, Steps, steps, puts-uses, entry-sound}
 use Rattle.space.proofs.CallSteps.Puts.{by-out, by-cas}
 use Rattle.space.proofs.CallSteps.Moves.{adds, reads, lacks, keeps, takes}
 use Rattle.space.proofs.CallSteps.Steps.{refuses, denies, obeys}
 use Rattle.space.proofs.ConfigLaws.{sound-rule}
 use Rattle.space.proofs.Decisions.{decides, asks, four, round-match}
-use Rattle.space.proofs.PolicyLaws.{small-offset}
+use Rattle.space.proofs.PolicyLaws.{weak-rule, decision-rule, small-offset}
 use Rattle.space.proofs.SpaceRules.{held-of}
 use Rattle.tuple.specs.declared.fault.Fault.the-variants.{Absent}
 use Rattle.tuple.specs.declared.field.Tuple.{Tuple}
@@ -79,30 +79,22 @@ pub data Step (config : Config) (tuples : List Tuple) (call : Call) (done : Appl
 
 module _ (config : Config) (strict : 1 ≤ config .policy) (tuples : List Tuple) (call : Call) where
   by-policy : {X : Type 0} → permits config tuples call ≡ true
-      → (eqb (config .policy) 1 ≡ true → weak call ≡ true → X) → (eqb (config .policy) 1 ≡ false → default config tuples call ≡ true → X) → X
+      → (eqb (config .policy) 1 ≡ true → WeakCall call → X) → (eqb (config .policy) 1 ≡ false → default config tuples call ≡ true → X) → X
   unfolding permits
   by-policy h one two =
-      let strict′ : eqb (config .policy) 0 ≡ false = ne-eqb (config .policy) 0 (λ e. omega arith) in
-      cases (eqb (config .policy) 1) (λ e. one e (rw (strict′, e) at h)) (λ e. two e (rw (strict′, e) at h))
-
-  weak-parts : weak call ≡ true
-      → (eqb (call .code) cas ≡ true) × (isWeakTemplate (call .template) ≡ true) × (isWeakEntry (call .entry) ≡ true) × (sameRound (call .template) (call .entry) ≡ true)
-  unfolding weak
-  weak-parts h = four (eqb (call .code) cas) (isWeakTemplate (call .template)) (isWeakEntry (call .entry)) (sameRound (call .template) (call .entry)) h
-
-  only-cas : weak call ≡ true → call .code ≡ cas
-  only-cas h = eqb-true (call .code) cas (weak-parts h .0)
+      cases (eqb (config .policy) 1) (λ e. one e (weak-rule config tuples call (eqb-true _ _ e) .0 h))
+      (λ e. two e (rw (ne-eqb (config .policy) 0 (λ none. omega arith), e) at h))
 
   no-inp : permits config tuples call ≡ true → call .code ≡ inp → ⊥
   unfolding default
   no-inp h code =
-      by-policy h (λ e w. omega (arith, only-cas w))
+      by-policy h (λ e w. omega (arith, w .code))
       (λ e d. let no : false ≡ true = rw code at d in let z : _≡_ {A = ℕ} 0 1 = cc in omega arith)
 
   out-parts : permits config tuples call ≡ true → call .code ≡ out → (isOwnProposal call ≡ true) × (isFree tuples (call .entry) ≡ true)
   unfolding default
   out-parts h code =
-      by-policy h (λ e w. absurd (omega (arith, only-cas w)))
+      by-policy h (λ e w. absurd (omega (arith, w .code)))
       (λ e d. and-eq-true-iff (isOwnProposal call) (isFree tuples (call .entry)) .0 (rw (eq-eqb (call .code) out code) at d))
 
   puts-out : config .n ≤ processes → 1 ≤ call .process → call .process ≤ config .n → callFault call ≡ Absent → permits config tuples call ≡ true
@@ -128,28 +120,26 @@ module _ (config : Config) (strict : 1 ≤ config .policy) (tuples : List Tuple)
   record Decides : Type 0 where
     template : asks config (call .template) ≡ true
     entry : decides config (call .entry) ≡ true
-    round : sameRound (call .template) (call .entry) ≡ true
+    same : roundOf (call .template) ≡ roundOf (call .entry)
+    in-rounds : roundOf (call .entry) < rounds
 
   cas-parts : permits config tuples call ≡ true → call .code ≡ cas → Decides
   unfolding default isDecisionCall
   cas-parts h code =
-      by-policy h
-      (λ e w. let parts = weak-parts w in
-      record { template = rw e (parts .1); entry = rw e (parts .2); round = parts .3 })
+      by-policy h (λ e w. record { template = rw e (w .template); entry = rw e (w .entry); same = w .same; in-rounds = w .in-rounds })
       (λ e d. let both = and-eq-true-iff (isDecisionCall (config .n) call) (bears config tuples (call .entry)) .0 (rw code at d) in
-      let parts = four (isDecisionTemplate (call .template)) (isDecision (call .entry)) (sameRound (call .template) (call .entry)) _ (both .0) in
-      record { template = rw e (parts .0); entry = rw e (parts .1); round = parts .2 })
+      let shaped = decision-rule config tuples call .0 (both .0) in
+      record { template = rw e (shaped .template); entry = rw e (shaped .entry); same = shaped .same; in-rounds = shaped .in-rounds })
 
   puts-cas : permits config tuples call ≡ true → call .code ≡ cas → oldestOf tuples (call .template) ≡ Nowhere → Cas config tuples call
   puts-cas h code none =
       let parts = cas-parts h code in
-      let round = and-eq-true-iff (eqb (roundOf (call .template)) (roundOf (call .entry))) (inRounds (roundOf (call .entry))) .0 (parts .round) in
       record {
         code = code;
-        entry = record { shape = parts .entry; round = ltb-true (roundOf (call .entry)) rounds (round .1) };
+        entry = record { shape = parts .entry; round = parts .in-rounds };
         alone = λ i b e same.
             let unmatched = oldest-rule .nowhere tuples (call .template) .0 none i b in
-            let matched = round-match config (call .template) (getD tuples i blankTuple) (parts .template) e (eqb-true _ _ (round .0) ∙ sym same) in
+            let matched = round-match config (call .template) (getD tuples i blankTuple) (parts .template) e (parts .same ∙ sym same) in
             let z : _≡_ {A = ℕ} 0 1 = cc in omega arith;
         permitted = h;
       }

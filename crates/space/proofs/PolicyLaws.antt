@@ -63,15 +63,15 @@ weak-rule config tuples call one =
 -- ---- policy 2: what is proposed
 
 -- the tuple is (word 1, count r, count q, offset from low to high)
-record Proposal (round process low high : ℕ) (tuple : Tuple) : Type 0 where
-  shape : isProposal tuple ≡ true
-  in-round : roundOf tuple ≡ round
-  by : processOf tuple ≡ process
-  least : low ≤ offsetOf tuple
-  most : offsetOf tuple ≤ high
+pub record Proposal (round process low high : ℕ) (tuple : Tuple) : Type 0 where
+  pub shape : isProposal tuple ≡ true
+  pub in-round : roundOf tuple ≡ round
+  pub by : processOf tuple ≡ process
+  pub least : low ≤ offsetOf tuple
+  pub most : offsetOf tuple ≤ high
 
 -- such a tuple stands in the list
-abbrev Standing : List Tuple → ℕ → ℕ → ℕ → ℕ → Type 0
+abbrev pub Standing : List Tuple → ℕ → ℕ → ℕ → ℕ → Type 0
 Standing tuples round process low high = (tuple : Tuple) × List·Memᴰ tuple tuples × Proposal round process low high tuple
 
 module _ (round process low high : ℕ) where
@@ -101,7 +101,7 @@ module _ (round process low high : ℕ) where
       (λ e. (tuple, List·Memᴰ·head refl, proposes-rule tuple .0 e))
       (λ e. let rest = proposed-standing tuples (rw e at h) in (rest .0, List·Memᴰ·tail (rest .1), rest .2))
 
-  standing-proposed : (tuples : List Tuple) → Standing tuples round process low high → proposedIn tuples round process low high ≡ true
+  pub standing-proposed : (tuples : List Tuple) → Standing tuples round process low high → proposedIn tuples round process low high ≡ true
   unfolding proposedIn
   standing-proposed [] s = absurd (List·Memᴰ·not-nil (s .1))
   standing-proposed (tuple ∷ tuples) s =
@@ -290,7 +290,7 @@ every-member test means n set members =
     )
 
 module _ (config : Config) (tuples : List Tuple) (call : Call) where
-  decision-rule : (isDecisionCall (config .n) call ≡ true) ↔ DecisionCall config call
+  pub decision-rule : (isDecisionCall (config .n) call ≡ true) ↔ DecisionCall config call
   unfolding isDecisionCall
   decision-rule =
       let round = same-round (call .template) (call .entry) in

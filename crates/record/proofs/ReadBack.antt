@@ -1,13 +1,13 @@
 -- What is written for a call without fault reads back to that call, and reading ends behind it: a number, a field, fields, a tuple, a part, the call, and what the writer leaves. From varint's law and what no fault tells.
-use mathlib.Core.Path.{_≡_, refl, sym, ap, ap₂, _∙_}
+use mathlib.Core.Path.{_≡_, refl, sym, ap, _∙_}
 use Prim.Native.Nat.{ℕ, zero, suc, _+_, _≤_}
 use native.Mathlib.Omega.{arith}
 use native.Mathlib.Nat.{add-zero, add-assoc}
-use mathlib.Core.Bool.{Bool, true, false, cond, _&&_, and-eq-true-iff}
+use mathlib.Core.Bool.{Bool, true, false, cond, and-eq-true-iff}
 use mathlib.Core.List.{List, [], _∷_, _++_, append-assoc}
-use lib.ListN.{length, take, drop, replicate, length-append, length-drop}
+use lib.ListN.{length, take, drop, length-append, length-drop}
 use lib.Seq.{drop-drop, drop-append-seam}
-use lib.Dec.{leb, eqb}
+use lib.Dec.{leb}
 use borrow.Author.Tests.{le-leb, eqb-true}
 use borrow.Table.Steps.{cases}
 use Rattle.record.specs.declared.head.Head.the-variants.{Known}
@@ -20,6 +20,7 @@ use Rattle.record.specs.Writing.{fieldBytes, fieldsBytes, tupleBytes, pa
 use Rattle.record.specs.Laws.{ReadBack, WrittenBack}
 use Rattle.record.proofs.HeadLaws.{head-of}
 use Rattle.record.proofs.NumberLaws.{kind-most}
+use Rattle.tuple.proofs.Blanks.{rest-blank, blank-tuple}
 use Rattle.tuple.proofs.NoFault.{known-head, SoundField, fields-sound, tuple-sound, SoundPart, call-sound}
 use Rattle.tuple.specs.declared.fault.Fault.{Fault}
 use Rattle.tuple.specs.declared.fault.Fault.the-variants.{Absent, Present}
@@ -27,8 +28,8 @@ use Rattle.tuple.specs.declared.field.Field.{Field}
 use Rattle.tuple.specs.declared.field.Tuple.{Tuple}
 use Rattle.tuple.specs.declared.field.Call.{Call}
 use Rattle.tuple.specs.Refusals.{refusal}
-use Rattle.tuple.specs.Fields.{defined, out, cas, places, largestOf, blankField}
-use Rattle.tuple.specs.Faults.{isDefined, fieldsFault, tupleFault, partFault, usesTemplate, usesEntry, isBlank, placeBlank, restFrom, restBlank, callFault}
+use Rattle.tuple.specs.Fields.{defined, out, cas, places, largestOf}
+use Rattle.tuple.specs.Faults.{isDefined, fieldsFault, tupleFault, partFault, usesTemplate, usesEntry, placeBlank, restFrom, restBlank, callFault}
 use Rattle.varint.specs.Reading.{largest}
 use Rattle.varint.specs.Writing.{bytesOf, widthOf}
 use Rattle.varint.proofs.ReadingLaws as varint
@@ -92,29 +93,6 @@ fields-back entry (suc count) (field ∷ fields) few sound blank s rest at e =
     )
     (rw (length-append, add-assoc))
 
-blank-field : (field : Field) → isBlank field ≡ true → blankField ≡ field
-unfolding isBlank
-blank-field field h =
-    let head-value = and-eq-true-iff (eqb (field .kind) 0 && eqb (field .state) 0) (eqb (field .value) 0) .0 h in
-    let head = and-eq-true-iff (eqb (field .kind) 0) (eqb (field .state) 0) .0 (head-value .0) in
-    λ i. record {
-      kind = sym (eqb-true (field .kind) 0 (head .0)) i;
-      state = sym (eqb-true (field .state) 0 (head .1)) i;
-      value = sym (eqb-true (field .value) 0 (head-value .1)) i;
-    }
-
--- the places behind the count are blank
-rest-blank : (count : ℕ) (fields : List Field) → restFrom count fields ≡ true
-    → take count fields ++ replicate (length (drop count fields)) blankField ≡ fields
-unfolding restFrom placeBlank
-rest-blank zero [] h = refl
-rest-blank (suc count) [] h = refl
-rest-blank zero (field ∷ fields) h =
-    let blanks = and-eq-true-iff (isBlank field) (restFrom 0 fields) .0 h in
-    ap₂ (λ (f : Field) (l : List Field). f ∷ l) (blank-field field (blanks .0)) (rest-blank 0 fields (blanks .1))
-rest-blank (suc count) (field ∷ fields) h =
-    ap (λ (l : List Field). field ∷ l) (rest-blank count fields (and-eq-true-iff (placeBlank field true) (restFrom count fields) .0 h .1))
-
 tuple-back : (entry : Bool) (tuple : Tuple) → length (tuple .fields) ≡ places → tupleFault entry tuple ≡ Absent → restFrom (tuple .count) (tuple .fields) ≡ true
     → (s rest : List ℕ) (at : ℕ) → drop at s ≡ tupleBytes tuple ++ rest
     → tupleAt entry s at ≡ record { next = place (at + length (tupleBytes tuple)); tuple = tuple }
@@ -139,10 +117,7 @@ part-back : (used entry : Bool) (tuple : Tuple) → length (tuple .fields) ≡ p
     → partAt used entry s at ≡ record { next = place (at + length (partBytes used tuple)); tuple = tuple }
 unfolding partFault restBlank partAt partBytes
 part-back true entry tuple six sound s rest at e = tuple-back entry tuple six (sound .fault) (sound .rest) s rest at e
-part-back false entry tuple six sound s rest at e =
-    let blanks = and-eq-true-iff (eqb (tuple .count) 0) (restFrom (tuple .count) (tuple .fields)) .0 (sound .rest) in
-    let none : tuple .count ≡ 0 = eqb-true (tuple .count) 0 (blanks .0) in
-    λ i. record { next = place (sym (add-zero at) i); tuple = record { count = sym none i; fields = (rw six at (rest-blank 0 (tuple .fields) (rw none at (blanks .1)))) i } }
+part-back false entry tuple six sound s rest at e = λ i. record { next = place (sym (add-zero at) i); tuple = blank-tuple tuple six (sound .rest) i }
 
 pub read-back : ReadBack
 unfolding callAt bodyAt partsAt callBytes

@@ -1,5 +1,5 @@
 -- A space is well formed exactly when its parts are, place by place.
-use mathlib.Core.Path.{_≡_, refl}
+use mathlib.Core.Path.{_≡_, refl, sym}
 use mathlib.Core.Logic.{_↔_}
 use mathlib.Core.Bool.{true, false, and-eq-true-iff}
 use mathlib.Core.List.{List, [], _∷_}
@@ -10,15 +10,11 @@ use borrow.Author.Tests.{le-leb}
 use Rattle.space.specs.Laws.{WellFormedRule}
 use Rattle.space.specs.Spaces.{placeSound, placesFrom, wellFormed}
 use Rattle.space.proofs.Keys.{stands}
-use Rattle.space.proofs.SpaceRules.{blank-tuple, formed-sound, formed-few, formed-places}
+use Rattle.space.proofs.SpaceRules.{blank-sound, formed-sound, formed-few, formed-places}
 use Rattle.tuple.specs.declared.field.Tuple.{Tuple}
-use Rattle.tuple.specs.Faults.{isEntry, isBlank, placeBlank, restFrom, restBlank}
+use Rattle.tuple.specs.Faults.{isEntry}
 use Rattle.tuple.specs.Fields.{capacity, blankTuple}
-
--- an unused place that is blank is sound
-blank-sound : placeSound blankTuple false ≡ true
-unfolding placeSound restBlank restFrom placeBlank isBlank
-blank-sound = refl
+use Rattle.tuple.proofs.Blanks.{blank-tuple}
 
 -- places of which the first `count` are used, place by place
 record Places (count : ℕ) (tuples : List Tuple) : Type 0 where
@@ -60,7 +56,7 @@ places-rule (suc count) (tuple ∷ tuples) =
     )
 
 pub well-formed-rule : WellFormedRule
-unfolding wellFormed
+unfolding wellFormed placeSound
 well-formed-rule space typed =
     let rule = places-rule (space .count) (space .tuples) in (
       λ formed. let each = rule .0 (formed-places space formed) in
@@ -71,7 +67,7 @@ well-formed-rule space typed =
             used = λ i below. each .used i below (omega arith);
             unused = λ i behind here. let inside : i < length (space .tuples) = omega arith in
                 let at = getD (space .tuples) i blankTuple in
-                blank-tuple at (typed .fields at (stands (space .tuples) i inside)) (each .unused i behind inside);
+                sym (blank-tuple at (typed .fields at (stands (space .tuples) i inside)) (each .unused i behind inside));
           },
       λ parts. rw (parts .config, le-leb (space .count) capacity (parts .few))
           (rule .1 (record {

@@ -1,5 +1,5 @@
 -- A well-formed space is the space of the tuples that it holds, and the space of at most 128 entries is well formed.
-use mathlib.Core.Path.{_≡_, refl, ap₂}
+use mathlib.Core.Path.{_≡_, refl, sym, ap₂}
 use Prim.Native.Nat.{ℕ, zero, suc, _-_, _≤_}
 use native.Mathlib.Omega.{arith}
 use mathlib.Core.Bool.{true, false, and-eq-true-iff}
@@ -7,16 +7,16 @@ use mathlib.Core.List.{List, [], _∷_, _++_, List·Memᴰ, List·Memᴰ·head, 
 use mathlib.Core.Logic.{⊎-elim}
 use lib.ListN.{length, take, drop, replicate, length-take, length-drop, take-append-drop}
 use lib.Seq.{take-append-seam}
-use borrow.Author.Tests.{leb-true, le-leb, eqb-true}
+use borrow.Author.Tests.{leb-true, le-leb}
 use Rattle.space.specs.declared.config.Config.{Config}
 use Rattle.space.specs.declared.space.Space.{Space}
 use Rattle.space.specs.Configs.{sound}
 use Rattle.space.specs.Spaces.{held, spaceOf, placeSound, placesFrom, wellFormed}
 use Rattle.space.specs.Laws.{Entries, Typed}
-use Rattle.tuple.specs.declared.field.Field.{Field}
 use Rattle.tuple.specs.declared.field.Tuple.{Tuple}
 use Rattle.tuple.specs.Faults.{isEntry, isBlank, placeBlank, restFrom, restBlank}
-use Rattle.tuple.specs.Fields.{capacity, places, blankField, blankTuple}
+use Rattle.tuple.specs.Fields.{capacity, places, blankTuple}
+use Rattle.tuple.proofs.Blanks.{blank-tuple}
 
 -- ---- members
 
@@ -28,47 +28,24 @@ mem-drop n tuples m = rw take-append-drop at (Memᴰ·append-right (take n tuple
 
 -- ---- blank tuples
 
-blank-field : (field : Field) → isBlank field ≡ true → field ≡ blankField
-unfolding isBlank
-blank-field field h =
-    let value = and-eq-true-iff _ _ .0 h in
-    let head = and-eq-true-iff _ _ .0 (value .0) in
-    let kind = eqb-true (field .kind) 0 (head .0) in
-    let state = eqb-true (field .state) 0 (head .1) in
-    let worth = eqb-true (field .value) 0 (value .1) in
-    let same : _≡_ {A = Field} (record { kind = field .kind; state = field .state; value = field .value }) blankField = cc in
-    same
-
-blank-fields : (n : ℕ) (fields : List Field) → length fields ≡ n → restFrom 0 fields ≡ true → fields ≡ replicate n blankField
-unfolding restFrom placeBlank
-blank-fields zero [] e h = refl
-blank-fields (suc n) [] e h = absurd (omega arith)
-blank-fields zero (field ∷ fields) e h = absurd (omega arith)
-blank-fields (suc n) (field ∷ fields) e h =
-    let parts = and-eq-true-iff _ _ .0 h in
-    ap₂ (λ (a : Field) (l : List Field). a ∷ l) (blank-field field (parts .0)) (blank-fields n fields (omega arith) (parts .1))
-
-pub blank-tuple : (tuple : Tuple) → length (tuple .fields) ≡ places → placeSound tuple false ≡ true → tuple ≡ blankTuple
-unfolding placeSound restBlank
-blank-tuple tuple six h =
-    let parts = and-eq-true-iff _ _ .0 h in
-    let none = eqb-true (tuple .count) 0 (parts .0) in
-    let fields = blank-fields places (tuple .fields) six (rw none at (parts .1)) in
-    ap₂ (λ (n : ℕ) (l : List Field). record { count = n; fields = l }) none fields
-
 blank-tuples : (tuples : List Tuple) → ((tuple : Tuple) → List·Memᴰ tuple tuples → length (tuple .fields) ≡ places) → placesFrom 0 tuples ≡ true
     → tuples ≡ replicate (length tuples) blankTuple
-unfolding placesFrom
+unfolding placesFrom placeSound
 blank-tuples [] six h = refl
 blank-tuples (tuple ∷ tuples) six h =
     let parts = and-eq-true-iff _ _ .0 h in
-    ap₂ (λ (a : Tuple) (l : List Tuple). a ∷ l) (blank-tuple tuple (six tuple (List·Memᴰ·head refl)) (parts .0))
+    ap₂ (λ (a : Tuple) (l : List Tuple). a ∷ l) (sym (blank-tuple tuple (six tuple (List·Memᴰ·head refl)) (parts .0)))
     (blank-tuples tuples (λ t m. six t (List·Memᴰ·tail m)) (parts .1))
 
+-- an unused place that is blank is sound
+pub blank-sound : placeSound blankTuple false ≡ true
+unfolding placeSound restBlank restFrom placeBlank isBlank
+blank-sound = refl
+
 blanks-sound : (n : ℕ) → placesFrom 0 (replicate n blankTuple) ≡ true
-unfolding placesFrom placeSound restBlank restFrom placeBlank isBlank
+unfolding placesFrom
 blanks-sound zero = refl
-blanks-sound (suc n) = blanks-sound n
+blanks-sound (suc n) = rw blank-sound (blanks-sound n)
 
 -- ---- used places and the places behind them
 

@@ -1,3 +1,4 @@
+pub mod Blanks
 pub mod FaultLaws
 pub mod Lengths
 pub mod Lists

@@ -4,7 +4,7 @@ use mathlib.Core.Logic.{_⊎_, inl, inr, ⊎-elim}
 use Prim.Native.Nat.{ℕ, _≤_, _<_}
 use native.Mathlib.Omega.{arith}
 use mathlib.Core.Bool.{true, false≢true}
-use mathlib.Core.List.{List, [], _∷_, _++_, List·Memᴰ, List·Memᴰ·not-nil, List·Memᴰ·append-cases, List·Memᴰ·eq-of-singleton}
+use mathlib.Core.List.{List, [], _∷_, _++_, List·Memᴰ, List·Memᴰ·not-nil, List·Memᴰ·append-cases, List·Memᴰ·eq-of-singleton, Memᴰ·append-left}
 use lib.ListN.{length, getD, length-append}
 use Rattle.space.specs.declared.config.Config.{Config}
 use Rattle.space.specs.Configs.{sound}
@@ -104,6 +104,7 @@ pub record Advance (config : Config) (tuples : List Tuple) (call : Call) : Type 
   pub space : applied (spaceOf config tuples) call .space ≡ spaceOf config next
   pub tidy : Tidy config next
   pub never : applied (spaceOf config tuples) call .reply .outcome ≡ Refused Full → ⊥
+  pub grows : (tuple : Tuple) → List·Memᴰ tuple tuples → List·Memᴰ tuple next
   pub from : (tuple : Tuple) → List·Memᴰ tuple next → List·Memᴰ tuple tuples ⊎ Put config tuples call tuple
 
 done-inserted : {config : Config} {tuples : List Tuple} {call : Call} {how : Outcome} → Puts config tuples call how → how ≡ Refused Full → ⊥
@@ -112,13 +113,14 @@ done-inserted (decided c) e = let z : _≡_ {A = ℕ} 0 1 = cc in omega arith
 
 advanced : {config : Config} {tuples : List Tuple} {call : Call} → Tidy config tuples → Step config tuples call (applied (spaceOf config tuples) call)
     → Advance config tuples call
-advanced {tuples = tuples} tidy (kept never same) = record { next = tuples; space = same; tidy = tidy; never = never; from = λ tuple m. inl m }
+advanced {tuples = tuples} tidy (kept never same) = record { next = tuples; space = same; tidy = tidy; never = never; grows = λ tuple m. m; from = λ tuple m. inl m }
 advanced {config} {tuples} {call} tidy (put {how = how} puts answers same) =
     record {
       next = tuples ++ (call .entry ∷ []);
       space = same;
       tidy = tidy-more tidy puts;
       never = λ e. done-inserted puts (sym answers ∙ e);
+      grows = λ tuple m. Memᴰ·append-left (call .entry ∷ []) m;
       from = λ tuple m. ⊎-elim (λ (old : List·Memᴰ tuple tuples). inl old)
           (λ (new : List·Memᴰ tuple (call .entry ∷ [])). inr (record { how = how; puts = puts; entry = sym (List·Memᴰ·eq-of-singleton new); answers = answers }))
           (List·Memᴰ·append-cases tuples m);

@@ -105,6 +105,9 @@ default-front : (tuple : Tuple) → isDecision tuple ≡ true → Front 4 define
 unfolding isDecision
 default-front tuple h = let parts = and-eq-true-iff _ (is processSet defined (field tuple 3)) .0 h in (front 4 defined tuple (parts .0), parts .1)
 
+pub decision-parts : (tuple : Tuple) → isDecision tuple ≡ true → (tuple .count ≡ 4) × (is offset defined (field tuple 2) ≡ true)
+decision-parts tuple h = let front = default-front tuple h .0 in (front .counted, front .last)
+
 pub proposal-parts : (tuple : Tuple) → isProposal tuple ≡ true
     → (tuple .count ≡ 4) × (says word propose (field tuple 0) ≡ true) × (is offset defined (field tuple 3) ≡ true)
 unfolding isProposal

@@ -11,7 +11,7 @@ use Rattle.space.specs.declared.config.Config.{Config}
 use Rattle.space.specs.declared.space.Space.{Space}
 use Rattle.space.specs.Configs.{sound}
 use Rattle.space.specs.Proposals.{processOf}
-use Rattle.space.specs.RunLaws.{lastOf, after, last, OwnOut, Borne, DefaultRules}
+use Rattle.space.specs.RunLaws.{lastOf, last, OwnOut, Borne, DefaultRules}
 use Rattle.space.specs.Shapes.{isProposal, isDecision, roundOf}
 use Rattle.space.specs.Spaces.{held, spaceOf}
 use Rattle.space.specs.Turns.{Turn, applied, turnsFrom, turns}
@@ -22,15 +22,11 @@ use Rattle.space.proofs.Effects.{Puts}
 use Rattle.space.proofs.Effects.Puts.{proposes, decided}
 use Rattle.space.proofs.Keys.{key}
 use Rattle.space.proofs.RunSteps.{fresh-space}
+use Rattle.space.proofs.SumLaws.{after-append}
 use Rattle.tuple.specs.declared.field.Tuple.{Tuple}
 use Rattle.tuple.specs.declared.field.Call.{Call}
 use Rattle.tuple.specs.declared.reply.Outcome.{Outcome}
 use Rattle.tuple.specs.Fields.{capacity, blankTuple}
-
-after-snoc : (space : Space) (before : List Call) (call : Call) → after space (before ++ (call ∷ [])) ≡ applied (after space before) call .space
-unfolding lastOf turnsFrom
-after-snoc space [] call = refl
-after-snoc space (first ∷ before) call = after-snoc (applied space first .space) before call
 
 -- ---- where each tuple of a run comes from
 
@@ -79,10 +75,10 @@ module _ (config : Config) (safe : sound config ≡ true) (two : config .policy 
 
   reached-more : {before rest : List Call} {tuples : List Tuple} {call : Call} → Reached config all before (call ∷ rest) tuples
       → (step : Advance config tuples call) → Reached config all (before ++ (call ∷ [])) rest (step .next)
-  unfolding turnsFrom
+  unfolding lastOf turnsFrom
   reached-more {before} {rest} {tuples} {call} reached step =
       record {
-        space = after-snoc _ before call ∙ ap (λ (s : Space). applied s call .space) (reached .space) ∙ step .space;
+        space = after-append _ before (call ∷ []) ∙ ap (λ (s : Space). applied s call .space) (reached .space) ∙ step .space;
         split = reached .split ∙ sym (append-snoc before call rest);
         occurs = λ turn m. reached .occurs turn (List·Memᴰ·tail (rw (step .space) m));
         tidy = step .tidy;
@@ -117,7 +113,7 @@ module _ (config : Config) (safe : sound config ≡ true) (two : config .policy 
   unfolding key
   same-decision t u p q r = rw (decision-alone t p, decision-alone u q, r)
 
-same-proposal : (t u : Tuple) → isProposal t ≡ true → isProposal u ≡ true → roundOf t ≡ roundOf u → processOf t ≡ processOf u → key t ≡ key u
+pub same-proposal : (t u : Tuple) → isProposal t ≡ true → isProposal u ≡ true → roundOf t ≡ roundOf u → processOf t ≡ processOf u → key t ≡ key u
 unfolding key
 same-proposal t u p q r s = rw (p, q, r, s)
 

@@ -6,12 +6,13 @@ use mathlib.Core.Bool.{true, false, not, and-eq-true-iff}
 use mathlib.Core.List.{List, [], _∷_, _++_}
 use lib.ListN.{length, getD}
 use lib.Dec.{eqb}
-use borrow.Author.Tests.{ltb-true, eqb-true, not-true, eq-eqb, ne-eqb}
+use borrow.Author.Tests.{ltb-true, eqb-true, eqb-false, not-true, eq-eqb, ne-eqb}
 use borrow.Table.Steps.{cases}
 use Rattle.space.specs.declared.config.Config.{Config}
 use Rattle.space.specs.declared.space.Applied.{Applied}
 use Rattle.space.specs.Configs.{processes, rounds, sound}
-use Rattle.space.specs.Default.{isOwnProposal, isFree, isDecisionCall, bears, default}
+use Rattle.space.specs.Default.{isOwnProposal, isFree, setOf, isDecisionCall, bears, default}
+use Rattle.space.specs.Members.{within}
 use Rattle.space.specs.Policies.{permits}
 use Rattle.space.specs.Proposals.{bottom, processOf, offsetOf, isTaken}
 use Rattle.space.specs.Shapes.{roundOf, inRounds, isProposal}
@@ -24,6 +25,7 @@ use Rattle.space.proofs.CallSteps.Moves.{adds, reads, lacks, keeps, tak
 use Rattle.space.proofs.CallSteps.Steps.{refuses, denies, obeys}
 use Rattle.space.proofs.ConfigLaws.{sound-rule}
 use Rattle.space.proofs.Decisions.{decides, asks, four, round-match}
+use Rattle.space.proofs.MemberLaws.{within-rule}
 use Rattle.space.proofs.PolicyLaws.{weak-rule, decision-rule, small-offset}
 use Rattle.space.proofs.SpaceRules.{held-of}
 use Rattle.tuple.specs.declared.fault.Fault.the-variants.{Absent}
@@ -47,10 +49,12 @@ pub record Proposal (tuple : Tuple) : Type 0 where
   pub some : 1 ≤ processOf tuple
   pub few : processOf tuple ≤ processes
   pub small : offsetOf tuple ≤ largestCode
+  pub no-bottom : offsetOf tuple ≡ bottom → ⊥
 
 pub record Decision (config : Config) (tuple : Tuple) : Type 0 where
   pub shape : decides config tuple ≡ true
   pub round : roundOf tuple < rounds
+  pub members : config .policy ≡ 2 → within (config .n) (setOf tuple) ≡ true
 
 pub record Out (tuples : List Tuple) (call : Call) : Type 0 where
   pub code : call .code ≡ out
@@ -112,6 +116,7 @@ module _ (config : Config) (strict : 1 ≤ config .policy) (tuples : List Tuple)
           some = omega arith;
           few = omega arith;
           small = small-offset (call .entry) (entry-sound call fault (puts-uses {tuples = tuples} {call = call} (by-out code))) (own .0);
+          no-bottom = eqb-false (offsetOf (call .entry)) bottom (not-true _ (own .3));
         };
         own = same;
         free = not-true (isTaken tuples (roundOf (call .entry)) (processOf (call .entry))) (parts .1);
@@ -122,21 +127,35 @@ module _ (config : Config) (strict : 1 ≤ config .policy) (tuples : List Tuple)
     entry : decides config (call .entry) ≡ true
     same : roundOf (call .template) ≡ roundOf (call .entry)
     in-rounds : roundOf (call .entry) < rounds
+    members : config .policy ≡ 2 → within (config .n) (setOf (call .entry)) ≡ true
 
   cas-parts : permits config tuples call ≡ true → call .code ≡ cas → Decides
   unfolding default isDecisionCall
   cas-parts h code =
-      by-policy h (λ e w. record { template = rw e (w .template); entry = rw e (w .entry); same = w .same; in-rounds = w .in-rounds })
+      by-policy h
+      (λ e w. record {
+        template = rw e (w .template);
+        entry = rw e (w .entry);
+        same = w .same;
+        in-rounds = w .in-rounds;
+        members = λ two. absurd (omega (arith, eqb-true (config .policy) 1 e));
+      })
       (λ e d. let both = and-eq-true-iff (isDecisionCall (config .n) call) (bears config tuples (call .entry)) .0 (rw code at d) in
       let shaped = decision-rule config tuples call .0 (both .0) in
-      record { template = rw e (shaped .template); entry = rw e (shaped .entry); same = shaped .same; in-rounds = shaped .in-rounds })
+      record {
+        template = rw e (shaped .template);
+        entry = rw e (shaped .entry);
+        same = shaped .same;
+        in-rounds = shaped .in-rounds;
+        members = λ two. within-rule (config .n) (setOf (call .entry)) .1 (shaped .members);
+      })
 
   puts-cas : permits config tuples call ≡ true → call .code ≡ cas → oldestOf tuples (call .template) ≡ Nowhere → Cas config tuples call
   puts-cas h code none =
       let parts = cas-parts h code in
       record {
         code = code;
-        entry = record { shape = parts .entry; round = parts .in-rounds };
+        entry = record { shape = parts .entry; round = parts .in-rounds; members = parts .members };
         alone = λ i b e same.
             let unmatched = oldest-rule .nowhere tuples (call .template) .0 none i b in
             let matched = round-match config (call .template) (getD tuples i blankTuple) (parts .template) e (parts .same ∙ sym same) in

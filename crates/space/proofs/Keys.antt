@@ -3,7 +3,8 @@ use mathlib.Core.Path.{_≡_, refl, sym, ap, _∙_}
 use Prim.Native.Nat.{ℕ, zero, suc, _+_, _*_, _≤_, _<_}
 use native.Mathlib.Omega.{arith}
 use mathlib.Core.Bool.{false, cond}
-use mathlib.Core.List.{List, [], _∷_, _++_, List·Memᴰ, List·Memᴰ·head, List·Memᴰ·tail}
+use mathlib.Core.List.{List, [], _∷_, _++_, List·Memᴰ, List·Memᴰ·head, List·Memᴰ·tail, List·Memᴰ·not-nil, List·Memᴰ·cases-cons}
+use mathlib.Core.Logic.{⊎-elim}
 use lib.ListN.{length, getD, length-append, List·getD-append}
 use lib.Seq.{getD-append-seam}
 use lib.Dec.{ltb}
@@ -108,3 +109,8 @@ pub stands : (tuples : List Tuple) (i : ℕ) → i < length tuples → List·Mem
 stands [] i h = absurd (omega arith)
 stands (tuple ∷ tuples) zero h = List·Memᴰ·head refl
 stands (tuple ∷ tuples) (suc i) h = List·Memᴰ·tail (stands tuples i (omega arith))
+
+pub place : (tuples : List Tuple) {tuple : Tuple} → List·Memᴰ tuple tuples → (i : ℕ) × (i < length tuples) × (getD tuples i blankTuple ≡ tuple)
+place [] m = absurd (List·Memᴰ·not-nil m)
+place (first ∷ tuples) m =
+    ⊎-elim (λ e. (0, omega arith, sym e)) (λ rest. let at = place tuples rest in (suc (at .0), omega (arith, at .1), at .2)) (List·Memᴰ·cases-cons m)

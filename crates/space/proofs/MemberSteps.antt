@@ -1,5 +1,5 @@
 -- The steps of the loops over a set's members, over plain values. From the definitions alone.
-use mathlib.Core.Path.{_≡_, ap}
+use mathlib.Core.Path.{_≡_, refl, ap}
 use Prim.Native.Nat.{ℕ, zero, suc, _+_, _-_, _/_, _%_, _≤_, _<_}
 use native.Mathlib.Omega.{arith}
 use mathlib.Core.Bool.{Bool, true, false, cond, _&&_, _||_}
@@ -9,6 +9,11 @@ use Rattle.space.specs.Members.{beyond, every, counted}
 pub beyond-step : (n k rest : ℕ) → k < n → beyond (n - k) rest ≡ beyond (n - (k + 1)) (rest / 2)
 unfolding beyond
 beyond-step n k rest h = let more : n - k ≡ suc (n - (k + 1)) = omega arith in ap (λ (m : ℕ). beyond m rest) more
+
+pub beyond-none : (n : ℕ) → beyond n 0 ≡ 0
+unfolding beyond
+beyond-none zero = refl
+beyond-none (suc n) = beyond-none n
 
 pub every-step : (test : ℕ → Bool) (n k rest : ℕ) → k ≤ n
     → every test (n + 1 - k) k rest ≡ (eqb (rest % 2) 0 || test k) && every test (n + 1 - (k + 1)) (k + 1) (rest / 2)

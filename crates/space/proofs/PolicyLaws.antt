@@ -3,33 +3,30 @@ use mathlib.Core.Path.{_≡_, refl, sym, _∙_}
 use mathlib.Core.Logic.{_↔_, inl, inr}
 use mathlib.Core.Bool.{Bool, true, false≢true, not, _&&_, or-true, and-false, and-eq-true-iff}
 use mathlib.Core.List.{List, [], _∷_, List·Memᴰ, List·Memᴰ·head, List·Memᴰ·tail, List·Memᴰ·not-nil, List·Memᴰ·cases-cons}
-use Prim.Native.Nat.{ℕ, zero, suc, _+_, _-_, _≤_, _<_}
+use Prim.Native.Nat.{ℕ, _+_, _-_, _≤_, _<_}
 use native.Mathlib.Omega.{arith}
 use lib.Count.{ones}
 use lib.Dec.{leb, ltb, eqb}
-use lib.ListN.{take, getD}
 use borrow.Author.Tests.{ltb-true, ltb-false, leb-true, eqb-true, eqb-false, not-true, lt-ltb, le-leb, eq-eqb, ne-eqb}
 use borrow.Table.Steps.{cases}
 use Rattle.space.specs.declared.config.Config.{Config}
 use Rattle.space.specs.Configs.{rounds}
 use Rattle.space.specs.Members.{within, every}
 use Rattle.space.specs.Proposals.{bottom, leastCode, processOf, offsetOf, proposes, proposedIn, hasProposed, hasProposedSome, isTaken}
-use Rattle.space.specs.Shapes.{field, roundOf, sameRound, isProposal, isWeakTemplate, isWeakEntry, isDecisionTemplate}
+use Rattle.space.specs.Shapes.{field, is, roundOf, sameRound, isProposal, isWeakTemplate, isWeakEntry, isDecisionTemplate}
 use Rattle.space.specs.Default.{decidedOf, setOf, isOwnProposal, isFree, isDecisionCall, backers, crowded, bears, default}
 use Rattle.space.specs.Policies.{permits}
 use Rattle.space.specs.Weak.{weak}
 use Rattle.space.specs.Laws.{Member, Proposed, Entries, BareRule, WeakRule, OutRule, RdpRule, InpRule, DecisionCall, BearsOffset, BearsBottom, CasOffsetRule, CasBottomRule}
+use Rattle.space.proofs.Decisions.{proposal-parts}
 use Rattle.space.proofs.MemberLaws.{within-rule, every-rule, counted-rule}
 use Rattle.space.proofs.TallyLaws.{tally-rule, same-set}
-use Rattle.tuple.specs.declared.fault.Fault.{Fault}
-use Rattle.tuple.specs.declared.fault.Fault.the-variants.{Absent, Present}
-use Rattle.tuple.specs.declared.field.Field.{Field}
 use Rattle.tuple.specs.declared.field.Tuple.{Tuple}
 use Rattle.tuple.specs.declared.field.Call.{Call}
-use Rattle.tuple.specs.Faults.{isAbsent, isDefined, fieldsFault, tupleFault, isEntry}
-use Rattle.tuple.specs.Fields.{cas, offset, largestOf, blankField}
+use Rattle.tuple.specs.Faults.{isEntry}
+use Rattle.tuple.specs.Fields.{cas, offset, defined, largestOf}
 use Rattle.tuple.specs.Offsets.{largestCode}
-use Rattle.tuple.proofs.NoFault.{fields-sound, tuple-sound}
+use Rattle.tuple.proofs.NoFault.{entry-small}
 
 -- ---- policy 0
 
@@ -140,28 +137,14 @@ has-proposed tuples round process w = (
 
 -- ---- policy 2: the offset of an entry is at most the largest
 
-absent : (fault : Fault) → isAbsent fault ≡ true → fault ≡ Absent
-absent Absent h = refl
-absent (Present refusal) h = absurd (false≢true h)
-
-small-field : (n : ℕ) (fields : List Field) (i : ℕ) → fieldsFault true (take n fields) ≡ Absent → i < n
-    → isDefined (getD fields i blankField) ≡ true → getD fields i blankField .value ≤ largestOf (getD fields i blankField .kind)
-small-field zero fields i sound below d = absurd (omega arith)
-small-field (suc n) [] i sound below d = omega arith
-small-field (suc n) (first ∷ fields) zero sound below d = fields-sound true first (take n fields) sound .0 .small d
-small-field (suc n) (first ∷ fields) (suc i) sound below d =
-    small-field n fields i (fields-sound true first (take n fields) sound .1) (omega arith) d
+pub small-code : (tuple : Tuple) (i : ℕ) → isEntry tuple ≡ true → i < tuple .count → is offset defined (field tuple i) ≡ true → field tuple i .value ≤ largestCode
+unfolding largestOf
+small-code tuple i entry below shape =
+    let parts = and-eq-true-iff (eqb (field tuple i .kind) offset) _ .0 shape in
+    rw (eqb-true (field tuple i .kind) offset (parts .0)) at (entry-small tuple i entry below (parts .1))
 
 pub small-offset : (tuple : Tuple) → isEntry tuple ≡ true → isProposal tuple ≡ true → offsetOf tuple ≤ largestCode
-unfolding isEntry isProposal largestOf
-small-offset tuple entry proposal =
-    let sound = tuple-sound true tuple (absent _ (and-eq-true-iff (isAbsent (tupleFault true tuple)) _ .0 entry .0)) in
-    let count : tuple .count ≡ 4 = cases (eqb (tuple .count) 4) (eqb-true _ _) (λ e. absurd (false≢true (rw e at proposal))) in
-    let kind : field tuple 3 .kind ≡ offset =
-    cases (eqb (field tuple 3 .kind) offset) (eqb-true _ _) (λ e. absurd (false≢true (simp (e, and-false) at proposal))) in
-    let given : isDefined (field tuple 3) ≡ true =
-    cases (isDefined (field tuple 3)) (λ e. e) (λ e. absurd (false≢true (simp (e, and-false) at proposal))) in
-    rw kind at (small-field (tuple .count) (tuple .fields) 3 (sound .fields) (omega arith) given)
+small-offset tuple entry proposal = let parts = proposal-parts tuple proposal in small-code tuple 3 entry (omega arith) (parts .2)
 
 has-proposed-some : (tuples : List Tuple) (round process : ℕ) → Entries tuples
     → (hasProposedSome tuples round process ≡ true) ↔ ((w : ℕ) × Proposed tuples round process w)

@@ -68,7 +68,7 @@ grows-from (call ∷ calls) two run =
     let later = grows-from calls two (step .run) in
     (here .0 ++ later .0, later .1 ∙ ap (λ (l : List Tuple). l ++ later .0) (here .1) ∙ append-assoc (run .tuples) (here .0) (later .0))
 
-after-append : (space : Space) (before calls : List Call) → after space (before ++ calls) ≡ after (after space before) calls
+pub after-append : (space : Space) (before calls : List Call) → after space (before ++ calls) ≡ after (after space before) calls
 unfolding lastOf turnsFrom
 after-append space [] calls = refl
 after-append space (call ∷ before) calls = after-append (applied space call .space) before calls

@@ -3,7 +3,7 @@ ghost use mathlib.Core.Path.{_≡_};
 ghost use Rattle.space.specs.Configs.{sound};
 
 // The most processes, the number of rounds, and the last policy.
-pub const PROCESSES: u64 = 15;
+pub const PROCESSES: usize = 15;
 
 pub const ROUNDS: u64 = 8;
 
@@ -24,7 +24,7 @@ impl Config {
         if n < 1 {
             return false;
         }
-        if PROCESSES < n {
+        if (PROCESSES as u64) < n {
             return false;
         }
         if (n - 1) / 3 < self.t {

@@ -10,6 +10,11 @@ mod turn;
 mod weak;
 
 pub use config::Config;
+pub use config::PROCESSES;
+pub use config::ROUNDS;
+pub use member::within;
+pub use shape::is_decision;
+pub use shape::is_proposal;
 pub use space::Applied;
 pub use space::Opened;
 pub use space::Opening;

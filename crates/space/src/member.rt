@@ -4,12 +4,15 @@ ghost use Prim.Native.Nat.{_+_, _≤_};
 ghost use Rattle.space.specs.Members.{within as within·, strike as strike·};
 
 // Whether all of a set is in 1 to n.
-pub(crate) fn within(n: u64, set: u64) -> bool
+pub fn within(n: u64, set: u64) -> bool
     ensures { λ r. ⌜ r ≡ within· n set ⌝ }
 {
     let mut rest = set;
     let mut k: u64 = 0;
     while k < n {
+        if rest == 0 {
+            return true;
+        }
         rest /= 2;
         k += 1;
     }

@@ -16,7 +16,7 @@ use tuple::WILDCARD;
 use tuple::WORD;
 
 // (word 1, count, count, offset)
-pub(crate) fn is_proposal(tuple: Tuple) -> bool
+pub fn is_proposal(tuple: Tuple) -> bool
     ensures { λ r. ⌜ r ≡ isProposal tuple ⌝ }
 {
     let first = tuple.fields[0];
@@ -80,7 +80,7 @@ pub(crate) fn is_decision_template(tuple: Tuple) -> bool
 }
 
 // (word 2, count, offset, processes)
-pub(crate) fn is_decision(tuple: Tuple) -> bool
+pub fn is_decision(tuple: Tuple) -> bool
     ensures { λ r. ⌜ r ≡ isDecision tuple ⌝ }
 {
     let first = tuple.fields[0];

@@ -45,14 +45,19 @@ fields-rule (suc n) (asked ∷ template) (given ∷ entry) t e =
       λ fits. rw (field-rule asked given .1 (fits 0 (omega arith))) (rest .1 (λ i below. fits (suc i) (omega arith))),
     )
 
-pub match-rule : MatchRule
+-- of tuples that have as many places as the template has fields
+pub matches-rule : (template entry : Tuple) → template .count ≤ length (template .fields) → template .count ≤ length (entry .fields)
+    → (matches template entry ≡ true) ↔ ((entry .count ≡ template .count) × ((i : ℕ) → i < template .count → Fits (getD (template .fields) i blankField) (getD (entry .fields) i blankField)))
 unfolding matches
-match-rule template entry t e few =
-    let fields = fields-rule (template .count) (template .fields) (entry .fields) (omega arith) (omega arith) in (
+matches-rule template entry t e =
+    let fields = fields-rule (template .count) (template .fields) (entry .fields) t e in (
       λ h. let parts = and-eq-true-iff _ _ .0 h in
           (eqb-true _ _ (parts .0), fields .0 (parts .1)),
       λ h. rw (eq-eqb (entry .count) (template .count) (h .0)) (fields .1 (h .1)),
     )
+
+pub match-rule : MatchRule
+match-rule template entry t e few = matches-rule template entry (omega arith) (omega arith)
 
 -- ---- the oldest
 

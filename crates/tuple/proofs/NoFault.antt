@@ -1,10 +1,10 @@
 -- What a field, a tuple and a call without fault are: each test that their faults are made of passed. From the definitions of faults alone.
 use mathlib.Core.Path.{_≡_, refl}
-use Prim.Native.Nat.{ℕ, _≤_}
+use Prim.Native.Nat.{ℕ, zero, suc, _≤_, _<_}
 use native.Mathlib.Omega.{arith}
-use mathlib.Core.Bool.{Bool, true, false, not, _&&_, _||_, or-false, and-eq-true-iff}
-use mathlib.Core.List.{List, _∷_}
-use lib.ListN.{take}
+use mathlib.Core.Bool.{Bool, true, false, false≢true, not, _&&_, _||_, or-false, and-eq-true-iff}
+use mathlib.Core.List.{List, [], _∷_}
+use lib.ListN.{take, getD}
 use lib.Dec.{leb}
 use borrow.Author.Tests.{leb-true, not-true}
 use Rattle.tuple.specs.declared.fault.Fault.{Fault}
@@ -14,8 +14,8 @@ use Rattle.tuple.specs.declared.field.Tuple.{Tuple}
 use Rattle.tuple.specs.declared.field.Call.{Call}
 use Rattle.tuple.specs.declared.refusal.Refusal.{Refusal}
 use Rattle.tuple.specs.declared.refusal.Refusal.the-variants.{Beyond, Unknown, Misshapen}
-use Rattle.tuple.specs.Fields.{word, processSet, formal, out, cas, places, largestOf}
-use Rattle.tuple.specs.Faults.{unless, first, knownHead, isDefined, fieldFault, fieldsFault, tupleFault, partFault, usesTemplate, usesEntry, usedFault, restBlank, callFault}
+use Rattle.tuple.specs.Fields.{word, processSet, formal, out, cas, places, largestOf, blankField}
+use Rattle.tuple.specs.Faults.{unless, first, knownHead, isDefined, fieldFault, fieldsFault, tupleFault, partFault, usesTemplate, usesEntry, usedFault, restBlank, callFault, isAbsent, isEntry}
 
 -- ---- tests
 
@@ -76,6 +76,28 @@ tuple-sound entry tuple h =
     let counted = unless-absent (leb 1 (tuple .count) && leb (tuple .count) places) Misshapen _ h in
     let range = between 1 (tuple .count) places (counted .0) in
     record { some = range .0; few = range .1; fields = counted .1 }
+
+-- ---- an entry of a space
+
+absent : (fault : Fault) → isAbsent fault ≡ true → fault ≡ Absent
+absent Absent h = refl
+absent (Present refusal) h = absurd (false≢true h)
+
+small-field : (n : ℕ) (fields : List Field) (i : ℕ) → fieldsFault true (take n fields) ≡ Absent → i < n
+    → isDefined (getD fields i blankField) ≡ true → getD fields i blankField .value ≤ largestOf (getD fields i blankField .kind)
+small-field zero fields i sound below d = absurd (omega arith)
+small-field (suc n) [] i sound below d = omega arith
+small-field (suc n) (field ∷ fields) zero sound below d = fields-sound true field (take n fields) sound .0 .small d
+small-field (suc n) (field ∷ fields) (suc i) sound below d =
+    small-field n fields i (fields-sound true field (take n fields) sound .1) (omega arith) d
+
+-- the value of each defined field is at most the largest of its kind
+pub entry-small : (tuple : Tuple) (i : ℕ) → isEntry tuple ≡ true → i < tuple .count → isDefined (getD (tuple .fields) i blankField) ≡ true
+    → getD (tuple .fields) i blankField .value ≤ largestOf (getD (tuple .fields) i blankField .kind)
+unfolding isEntry
+entry-small tuple i entry below d =
+    let sound = tuple-sound true tuple (absent _ (and-eq-true-iff (isAbsent (tupleFault true tuple)) _ .0 entry .0)) in
+    small-field (tuple .count) (tuple .fields) i (sound .fields) below d
 
 -- ---- the call
 

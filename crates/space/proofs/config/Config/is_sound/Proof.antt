@@ -1,7 +1,7 @@
 -- `space::Config::is_sound` meets its contract: its tests are the definition's.
 use Prim.Native.Nat.{_-_, _/_}
 use borrow.Author.Tests.{le-leb, lt-leb}
-use Rattle.space.specs.Configs.{sound}
+use Rattle.space.specs.Configs.{processes, sound}
 use Rattle.space.proofs.config.Config.is_sound.Statement.{statement}
 use Rattle.space.proofs.config.Config.is_sound.Tie as tie
 
@@ -17,13 +17,13 @@ returns-3 : tie.Need-returns-3
 unfolding sound
 returns-3 c =
     let s = c .before .before .before .before .args .self in
-    rw (le-leb 1 (s .n) (c .before .before .before .if1 .left), le-leb (s .n) 15 (c .before .before .if2 .left), lt-leb (s .t) ((s .n - 1) / 3) (c .if3 .taken))
+    rw (le-leb 1 (s .n) (c .before .before .before .if1 .left), le-leb (s .n) processes (c .before .before .if2 .left), lt-leb (s .t) ((s .n - 1) / 3) (c .if3 .taken))
 
 returns-4 : tie.Need-returns-4
 unfolding sound
 returns-4 c =
     let s = c .before .before .before .before .before .args .self in
-    rw (le-leb 1 (s .n) (c .before .before .before .before .if1 .left), le-leb (s .n) 15 (c .before .before .before .if2 .left), le-leb (s .t) ((s .n - 1) / 3) (c .before .if3 .left))
+    rw (le-leb 1 (s .n) (c .before .before .before .before .if1 .left), le-leb (s .n) processes (c .before .before .before .if2 .left), le-leb (s .t) ((s .n - 1) / 3) (c .before .if3 .left))
 
 pub is-sound-spec : {M : Type 1} → statement M
 is-sound-spec = tie.close (tie.spec returns returns-2 returns-3 returns-4)

@@ -1,0 +1,12 @@
+pub mod FitLaws
+mod FitSteps
+pub mod KeptLaws
+mod Lengths
+pub mod NextLaws
+mod OffsetSteps
+pub mod ReachLaws
+pub mod ReplyLaws
+pub mod StateLaws
+mod StateSteps
+pub mod TallyLaws
+pub mod TallySteps

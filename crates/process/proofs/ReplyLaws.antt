@@ -1,0 +1,45 @@
+-- A refused reply leaves the state as before, and a decided state repeats its decision. From the definition of handing a reply.
+use mathlib.Core.Path.{_≡_, refl}
+use mathlib.Core.Bool.{_||_, and-eq-true-iff}
+use mathlib.Core.List.{List}
+use Prim.Native.Nat.{ℕ}
+use native.Mathlib.Omega.{arith}
+use borrow.Table.Steps.{cases}
+use Rattle.process.specs.declared.process.Next.the-variants.{Refuses}
+use Rattle.process.specs.declared.process.Phase.{Phase}
+use Rattle.process.specs.declared.process.Phase.the-variants.{Proposing, Reading, Deciding, Decided}
+use Rattle.process.specs.declared.process.Process.{Process}
+use Rattle.process.specs.Fits.{fits}
+use Rattle.process.specs.Laws.{Unmoved, Repeats}
+use Rattle.process.specs.Procedure.{turned, noted, advanced, isDecided, resumed}
+use Rattle.process.specs.States.{foundSound, wellFormed}
+use Rattle.process.specs.Tallies.{settled}
+use Rattle.process.proofs.StateLaws.{formed-parts, none-at, none-found}
+use Rattle.tuple.specs.declared.refusal.Refusal.{Refusal}
+use Rattle.tuple.specs.declared.reply.Reply.{Reply}
+
+-- what a reply that fits leads to is no refusal
+advances : (process : Process) (reply : Reply) (phase : Phase) (why : Refusal) → advanced process reply phase .next ≡ Refuses why → ⊥
+advances process reply Proposing why = λ h. let z : _≡_ {A = ℕ} 0 1 = cc in omega arith
+advances process reply (Reading asked) why =
+    cases (settled (process .config) (noted (process .found) asked (reply .tuple) (reply .outcome)))
+    (λ e. rw e (λ h. let z : _≡_ {A = ℕ} 0 1 = cc in omega arith))
+    (λ e. rw e (λ h. let z : _≡_ {A = ℕ} 0 1 = cc in omega arith))
+advances process reply Deciding why = λ h. let z : _≡_ {A = ℕ} 0 1 = cc in omega arith
+advances process reply (Decided code) why = λ h. let z : _≡_ {A = ℕ} 0 1 = cc in omega arith
+
+pub unmoved : Unmoved
+unfolding resumed
+unmoved process reply why =
+    cases (wellFormed process)
+    (λ formed. cases (isDecided (process .phase) || fits process reply)
+    (λ fit. rw (formed, fit) (λ refuses. absurd (advances process reply (process .phase) why refuses)))
+    (λ unfit. rw (formed, unfit) (λ refuses. refl)))
+    (λ unformed. rw unformed (λ refuses. refl))
+
+pub repeats : Repeats
+unfolding resumed
+repeats process reply code typed formed decided =
+    let sound = rw decided at (formed-parts process .0 formed .1) in
+    let none = none-found (process .found) typed (none-at (process .found) (and-eq-true-iff (foundSound 0 (process .found)) _ .0 sound .0)) in
+    rw (formed, decided, none)

@@ -1,0 +1,124 @@
+-- `process::start` meets its contract: its tests are the definition's.
+use borrow.Author.Needs.{needs}
+use mathlib.Core.Path.{_≡_, sym, ap, _∙_}
+use mathlib.Core.Bool.{true}
+use borrow.Author.Tests.{lt-ltb, le-ltb, not-true, not-false}
+use Rattle.process.specs.Procedure.{started}
+use Rattle.process.specs.States.{startable, known}
+use Rattle.process.proofs.OffsetSteps.{coded-proposable, coded-beyond, coded-bottom}
+use Rattle.space.specs.Configs.{rounds}
+use Rattle.space.specs.Shapes.{inRounds}
+use Rattle.tuple.specs.declared.offset.Coded.the-variants.{Code}
+use Rattle.tuple.specs.Offsets.{codedOf}
+use Rattle.process.proofs.procedure.start.Statement.{statement}
+use Rattle.process.proofs.procedure.start.Tie as tie
+
+startable-requires : tie.Need-startable-requires
+startable-requires c κs = search needs
+
+unstarted-requires : tie.Need-unstarted-requires
+unstarted-requires c κs = search needs
+
+returns : tie.Need-returns
+unfolding started
+returns c = c .unstarted .ensures ∙ sym (rw (sym (c .before .before .startable .ensures) ∙ not-true _ (c .before .if1 .taken)))
+
+-- the tests that were passed
+able : (c : tie.Else1) → startable (c .before .before .args .config) ≡ true
+able c = sym (c .before .startable .ensures) ∙ not-false _ (c .if1 .left)
+
+member : (c : tie.Else2) → let a = c .before .before .before .before .args in known (a .config) (a .process) ≡ true
+member c = sym (c .before .known .ensures) ∙ not-false _ (c .if2 .left)
+
+in-rounds : (c : tie.Else3) → inRounds (c .before .before .before .before .before .args .round) ≡ true
+in-rounds c = lt-ltb _ rounds (c .if3 .left)
+
+coded : (c : tie.After-known-told) → codedOf (c .before .before .before .before .before .before .before .before .before .args .offset) ≡ Code (c .before .code .given .0 .0)
+coded c = sym (c .before .before .before .encode .ensures) ∙ c .before .code .given .1
+
+known-requires : tie.Need-known-requires
+known-requires c κs = search needs
+
+unstarted-requires-2 : tie.Need-unstarted-requires-2
+unstarted-requires-2 c κs = search needs
+
+returns-2 : tie.Need-returns-2
+unfolding started
+returns-2 c =
+    let k = c .before .before in
+    c .unstarted2 .ensures ∙ sym (rw (able (k .before), sym (k .known .ensures) ∙ not-true _ (c .before .if2 .taken)))
+
+unstarted-requires-3 : tie.Need-unstarted-requires-3
+unstarted-requires-3 c κs = search needs
+
+returns-3 : tie.Need-returns-3
+unfolding started
+returns-3 c =
+    let m = c .before .before in
+    c .unstarted3 .ensures ∙ sym (rw (able (m .before .before), member m, le-ltb _ rounds (c .before .if3 .taken)))
+
+encode-requires : tie.Need-encode-requires
+encode-requires c κs = search needs
+
+enum-known-code : tie.Need-enum-known-code
+enum-known-code c = search needs
+
+enum-told : tie.Need-enum-told
+enum-told c = search needs
+
+unstarted-requires-4 : tie.Need-unstarted-requires-4
+unstarted-requires-4 c κs = search needs
+
+returns-4 : tie.Need-returns-4
+unfolding started
+returns-4 c =
+    let e = c .before .before .before in
+    let r = e .before in
+    let m = r .before in
+    c .unstarted4 .ensures
+    ∙ sym (rw (able (m .before .before), member m, in-rounds r, coded-beyond _ _ (sym (e .encode .ensures) ∙ c .before .enum-told .given .1)))
+
+unstarted-requires-5 : tie.Need-unstarted-requires-5
+unstarted-requires-5 c κs = search needs
+
+returns-5 : tie.Need-returns-5
+unfolding started
+returns-5 c =
+    let k = c .before .before in
+    let r = k .before .before .before .before in
+    let m = r .before in
+    c .unstarted5 .ensures ∙ sym (rw (able (m .before .before), member m, in-rounds r, coded-bottom _ (coded k ∙ ap Code (c .before .if4 .taken))))
+
+out-call-requires : tie.Need-out-call-requires
+out-call-requires c κs = search needs
+
+returns-6 : tie.Need-returns-6
+unfolding started
+returns-6 c =
+    let k = c .before .before in
+    let r = k .before .before .before .before in
+    let m = r .before in
+    let offset = coded-proposable _ _ (coded k) (c .before .if4 .left) in
+    rw (c .out-call .ensures, able (m .before .before), member m, in-rounds r, offset .0, offset .1)
+
+pub start-spec : {M : Type 1} → statement M
+start-spec =
+    tie.close
+    (tie.spec
+    startable-requires
+    unstarted-requires
+    returns
+    known-requires
+    unstarted-requires-2
+    returns-2
+    unstarted-requires-3
+    returns-3
+    encode-requires
+    enum-known-code
+    enum-told
+    unstarted-requires-4
+    returns-4
+    unstarted-requires-5
+    returns-5
+    out-call-requires
+    returns-6)

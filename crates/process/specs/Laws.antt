@@ -1,0 +1,95 @@
+-- The laws of the procedure, as claims over the definitions, in document 01's words.
+use mathlib.Core.Path.{_≡_}
+use mathlib.Core.Logic.{_↔_, _⊎_}
+use mathlib.Core.Bool.{true}
+use mathlib.Core.List.{List}
+use Prim.Native.Nat.{ℕ, _+_, _-_, _≤_, _<_}
+use lib.Count.{ones}
+use lib.ListN.{length}
+use Rattle.process.specs.declared.process.Next.the-variants.{Calls, Decides, Refuses}
+use Rattle.process.specs.declared.process.Phase.the-variants.{Decided}
+use Rattle.process.specs.declared.process.Process.{Process}
+use Rattle.process.specs.Fits.{fits}
+use Rattle.process.specs.Procedure.{started, resumed}
+use Rattle.process.specs.States.{wellFormed}
+use Rattle.process.specs.Tallies.{foundOf, backs, backing, backingSet, backed, settled, nextAfter}
+use Rattle.space.specs.declared.config.Config.{Config}
+use Rattle.space.specs.Configs.{processes}
+use Rattle.space.specs.Laws.{Member}
+use Rattle.space.specs.Proposals.{bottom}
+use Rattle.tuple.specs.declared.offset.Offset.{Offset}
+use Rattle.tuple.specs.declared.refusal.Refusal.{Refusal}
+use Rattle.tuple.specs.declared.reply.Reply.{Reply}
+use Rattle.tuple.specs.Fields.{blankCall}
+use Rattle.tuple.specs.Offsets.{offsetOf}
+
+-- ---- a state is well formed if the procedure can reach it by fitting replies
+
+pub data Reachable : Process → Type 0 where
+  starts : (config : Config) (process round : ℕ) (offset : Offset) → started config process round offset .next ≡ Calls
+      → Reachable (started config process round offset .process)
+  resumes : (process : Process) (reply : Reply) → Reachable process → fits process reply ≡ true → Reachable (resumed process reply .process)
+
+-- a state's type says that it has a place for each process
+abbrev pub ReachableRule : Type 0
+ReachableRule = (process : Process) → length (process .found) ≡ processes → (wellFormed process ≡ true) ↔ Reachable process
+
+-- ---- what a reply leaves as before
+
+-- refused, it leaves the state as before
+abbrev pub Unmoved : Type 0
+Unmoved = (process : Process) (reply : Reply) (why : Refusal) → resumed process reply .next ≡ Refuses why → resumed process reply .process ≡ process
+
+-- once decided, the process repeats the decision to every reply handed in, fitting or not
+abbrev pub Repeats : Type 0
+Repeats =
+    (process : Process) (reply : Reply) (code : ℕ)
+    → length (process .found) ≡ processes
+    → wellFormed process ≡ true
+    → process .phase ≡ Decided code
+    → resumed process reply ≡ record { next = Decides (offsetOf code); process = process; call = blankCall }
+
+-- ---- when it stops reading, and with what
+
+-- some offset has t + 1 found processes, or n - t processes are found
+abbrev pub SettledRule : Type 0
+SettledRule =
+    (config : Config) (found : List ℕ)
+    → (settled config found ≡ true)
+    ↔ (((w : ℕ) × (w ≡ bottom → ⊥) × (config .t + 1 ≤ backing w found)) ⊎ (config .n - config .t ≤ backing bottom found))
+
+-- the value is an offset that t + 1 found processes have proposed, or bottom if there is none
+pub record BackedRule (t : ℕ) (found : List ℕ) : Type 0 where
+  pub some : (backed t found ≡ bottom → ⊥) → t + 1 ≤ backing (backed t found) found
+  pub none : backed t found ≡ bottom → (w : ℕ) → (w ≡ bottom → ⊥) → backing w found ≤ t
+
+abbrev pub BackedRules : Type 0
+BackedRules = (t : ℕ) (found : List ℕ) → BackedRule t found
+
+-- its set is of all found processes that proposed the value, of all found if that is bottom, and its size is their number
+pub record SetRule (value : ℕ) (found : List ℕ) : Type 0 where
+  pub members : (k : ℕ) → Member k (backingSet value found) ↔ ((1 ≤ k) × (backs value (foundOf found k) ≡ true))
+  pub size : ones (backingSet value found) ≡ backing value found
+
+abbrev pub SetRules : Type 0
+SetRules = (value : ℕ) (found : List ℕ) → SetRule value found
+
+-- ---- what it reads next
+
+-- the first that is not found behind the one asked, or, if all those are found, the first of all
+pub record NextRule (n : ℕ) (found : List ℕ) (asked next : ℕ) : Type 0 where
+  pub some : 1 ≤ next
+  pub few : next ≤ n
+  pub free : foundOf found next ≡ 0
+  pub behind : asked < next → (k : ℕ) → asked < k → k < next → foundOf found k ≡ 0 → ⊥
+  pub again : next ≤ asked → (k : ℕ) → 1 ≤ k → k ≤ n → (asked < k) ⊎ (k < next) → foundOf found k ≡ 0 → ⊥
+
+abbrev pub NextRules : Type 0
+NextRules =
+    (n : ℕ) (found : List ℕ) (asked k : ℕ)
+    → n ≤ length found
+    → asked ≤ n
+    → 1 ≤ k
+    → k ≤ n
+    → foundOf found k ≡ 0
+    → NextRule n found asked (nextAfter n found asked)

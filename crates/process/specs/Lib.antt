@@ -1,0 +1,6 @@
+pub mod Asks
+pub mod Fits
+pub mod Laws
+pub mod Procedure
+pub mod States
+pub mod Tallies

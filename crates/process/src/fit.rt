@@ -1,0 +1,101 @@
+// Which replies fit a process's state.
+ghost use mathlib.Core.Path.{_≡_};
+ghost use Rattle.process.specs.Fits.{isAskedProposal, isRoundDecision, fitsOut, fitsRdp, fitsCas, fits as fits·};
+use crate::process::Phase;
+use crate::process::Process;
+use space::is_decision;
+use space::is_proposal;
+use space::within;
+use tuple::Outcome;
+use tuple::Reply;
+use tuple::Tuple;
+
+pub(crate) fn fits(process: Process, reply: Reply) -> bool
+    ensures { λ r. ⌜ r ≡ fits· process reply ⌝ }
+{
+    let phase = process.phase;
+    match phase {
+        Phase::Proposing => fits_out(reply),
+        Phase::Reading(asked) => fits_rdp(process.round, asked, reply),
+        Phase::Deciding => fits_cas(process.config.n, process.round, reply),
+        Phase::Decided(_) => false,
+    }
+}
+
+// Done after out.
+fn fits_out(reply: Reply) -> bool
+    ensures { λ r. ⌜ r ≡ fitsOut (reply .tuple) (reply .outcome) ⌝ }
+{
+    let outcome = reply.outcome;
+    let tuple = reply.tuple;
+    match outcome {
+        Outcome::Done => tuple.is_unused(),
+        _ => false,
+    }
+}
+
+// None, or a proposal of the round and process asked, after rdp.
+fn fits_rdp(round: u64, asked: u64, reply: Reply) -> bool
+    ensures { λ r. ⌜ r ≡ fitsRdp round asked (reply .tuple) (reply .outcome) ⌝ }
+{
+    let outcome = reply.outcome;
+    let tuple = reply.tuple;
+    match outcome {
+        Outcome::None => tuple.is_unused(),
+        Outcome::Found => is_asked_proposal(round, asked, tuple),
+        _ => false,
+    }
+}
+
+// Inserted, or held with a decision of the round, after cas.
+fn fits_cas(n: u64, round: u64, reply: Reply) -> bool
+    ensures { λ r. ⌜ r ≡ fitsCas n round (reply .tuple) (reply .outcome) ⌝ }
+{
+    let outcome = reply.outcome;
+    let tuple = reply.tuple;
+    match outcome {
+        Outcome::Inserted => tuple.is_unused(),
+        Outcome::Held => is_round_decision(n, round, tuple),
+        _ => false,
+    }
+}
+
+// A proposal of the round and process asked other than bottom, which a well-formed space can hold.
+fn is_asked_proposal(round: u64, asked: u64, tuple: Tuple) -> bool
+    ensures { λ r. ⌜ r ≡ isAskedProposal round asked tuple ⌝ }
+{
+    let second = tuple.fields[1];
+    let third = tuple.fields[2];
+    let fourth = tuple.fields[3];
+    if !tuple.is_entry() {
+        return false;
+    }
+    if !is_proposal(tuple) {
+        return false;
+    }
+    if second.value != round {
+        return false;
+    }
+    if third.value != asked {
+        return false;
+    }
+    fourth.value != 0
+}
+
+// A decision of the round with processes in 1 to n, which a well-formed space can hold.
+fn is_round_decision(n: u64, round: u64, tuple: Tuple) -> bool
+    ensures { λ r. ⌜ r ≡ isRoundDecision n round tuple ⌝ }
+{
+    let second = tuple.fields[1];
+    let fourth = tuple.fields[3];
+    if !tuple.is_entry() {
+        return false;
+    }
+    if !is_decision(tuple) {
+        return false;
+    }
+    if second.value != round {
+        return false;
+    }
+    within(n, fourth.value)
+}

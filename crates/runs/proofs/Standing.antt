@@ -1,0 +1,131 @@
+-- A decision that is given out stands as a tuple in the space: what replies give out, and, by the hypothesis `logged`, what states give.
+use mathlib.Core.Path.{_≡_, refl}
+use mathlib.Core.Bool.{true, false≢true, and-eq-true-iff}
+use mathlib.Core.List.{List, [], _∷_, _++_, List·Memᴰ}
+use mathlib.Core.Logic.{⊎-elim}
+use Prim.Native.Nat.{ℕ, _≤_, _<_}
+use native.Mathlib.Omega.{arith}
+use lib.Dec.{eqb}
+use lib.ListN.{length, take, getD}
+use borrow.Author.Tests.{eqb-true, ne-eqb}
+use Rattle.runs.specs.Correct.{Decision, Watch, right, judged}
+use Rattle.runs.specs.Decisions.{GivenOut}
+use Rattle.runs.specs.Theorem.{SoundConfig}
+use Rattle.runs.proofs.Answers.{stays, turn-put, call-shows}
+use Rattle.runs.proofs.Configs.{config-rules}
+use Rattle.runs.proofs.Turning.{by-turn}
+use Rattle.space.specs.declared.config.Config.{Config}
+use Rattle.space.specs.Default.{decidedOf, isDecisionCall, bears, default}
+use Rattle.space.specs.Laws.{DecisionCall}
+use Rattle.space.specs.Policies.{permits}
+use Rattle.space.specs.RunLaws.{last}
+use Rattle.space.specs.Shapes.{field, is, says, roundOf, isProposal, isDecisionTemplate, isDecision}
+use Rattle.space.specs.Spaces.{held}
+use Rattle.space.specs.Turns.{Turn, applied, turns}
+use Rattle.space.proofs.CallSteps.{Puts}
+use Rattle.space.proofs.CallSteps.Puts.{by-out, by-cas}
+use Rattle.space.proofs.Decisions.{four, within-fields, proposal-parts}
+use Rattle.space.proofs.PolicyLaws.{decision-rule}
+use Rattle.tuple.specs.declared.field.Field.{Field}
+use Rattle.tuple.specs.declared.field.Tuple.{Tuple}
+use Rattle.tuple.specs.declared.field.Call.{Call}
+use Rattle.tuple.specs.declared.reply.Outcome.{Outcome}
+use Rattle.tuple.specs.declared.reply.Outcome.the-variants.{Inserted, Held}
+use Rattle.tuple.specs.Faults.{isDefined}
+use Rattle.tuple.specs.Fields.{word, propose, decision, defined, processSet, wildcard, cas, blankField}
+use Rattle.tuple.specs.Matching.{fieldMatches, fieldsMatch, matches}
+use Rattle.tuple.specs.Offsets.{offsetOf as meant}
+
+-- the decision is that of a tuple of the list
+pub record Stands (tuples : List Tuple) (d : Decision) : Type 0 where
+  pub tuple : Tuple
+  pub there : List·Memᴰ tuple tuples
+  pub shape : isDecision tuple ≡ true
+  pub in-round : roundOf tuple ≡ d .round
+  pub of : meant (decidedOf tuple) ≡ d .offset
+
+-- the decision of a tuple
+abbrev pub decisionOf : Tuple → Decision
+decisionOf tuple = record { round = roundOf tuple; offset = meant (decidedOf tuple) }
+
+-- ---- what matches a decision's template is no proposal
+
+first-value : (template entry : List Field) → 0 < length template → isDefined (getD template 0 blankField) ≡ true
+    → fieldsMatch (take 4 template) (take 4 entry) ≡ true → getD template 0 blankField .value ≡ getD entry 0 blankField .value
+unfolding fieldsMatch fieldMatches
+first-value [] entry some given h = absurd (omega arith)
+first-value (t ∷ template) [] some given h = absurd (false≢true h)
+first-value (t ∷ template) (e ∷ entry) some given h =
+    let here = and-eq-true-iff (fieldMatches t e) _ .0 h .0 in
+    eqb-true _ _ (rw given at (and-eq-true-iff (eqb (t .kind) (e .kind)) _ .0 here .1))
+
+said-word : (value : ℕ) (f : Field) → says word value f ≡ true → (is word defined f ≡ true) × (f .value ≡ value)
+said-word value f h = let parts = and-eq-true-iff (is word defined f) _ .0 h in (parts .0, eqb-true _ _ (parts .1))
+
+matched-unproposed : (template tuple : Tuple) → isDecisionTemplate template ≡ true → matches template tuple ≡ true → isProposal tuple ≡ true → ⊥
+unfolding isDecisionTemplate matches
+matched-unproposed template tuple t h p =
+    let places = and-eq-true-iff _ (is processSet wildcard (field template 3)) .0 t .0 in
+    let front = four (eqb (template .count) 4) (says word decision (field template 0)) _ _ places in
+    let counts : template .count ≡ 4 = eqb-true _ _ (front .0) in
+    let asked = said-word decision (field template 0) (front .1) in
+    let given = said-word propose (field tuple 0) (proposal-parts tuple p .1) in
+    let some = within-fields template 0 word defined (omega arith) (asked .0) in
+    let sets : isDefined (field template 0) ≡ true = and-eq-true-iff (eqb (field template 0 .kind) word) _ .0 (asked .0) .1 in
+    let same = first-value (template .fields) (tuple .fields) some sets (rw counts at (and-eq-true-iff (eqb (tuple .count) (template .count)) _ .0 h .1)) in
+    omega arith
+
+-- ---- what a turn gives out
+
+puts-cas : {tuples : List Tuple} {call : Call} {how : Outcome} → Puts tuples call how → how ≡ Inserted → call .code ≡ cas
+puts-cas (by-out e) same = let z : _≡_ {A = ℕ} 0 1 = cc in absurd (omega arith)
+puts-cas (by-cas e none) same = e
+
+module _ {config : Config} (safe : SoundConfig config) where
+  -- a cas that the policy permitted has the two shapes
+  pub decision-call : (tuples : List Tuple) (call : Call) → permits config tuples call ≡ true → call .code ≡ cas → DecisionCall config call
+  unfolding permits default isDecisionCall
+  decision-call tuples call permitted code =
+      let tests : default config tuples call ≡ true = rw (ne-eqb (config .policy) 0 (λ e. omega arith), ne-eqb (config .policy) 1 (λ e. omega arith)) at permitted in
+      decision-rule config tuples call .0 (and-eq-true-iff (isDecisionCall (config .n) call) (bears config tuples (call .entry)) .0 (rw code at tests) .0)
+
+  pub inserted-stands : {turn : Turn} (calls : List Call) → List·Memᴰ turn (turns config calls) → turn .reply .outcome ≡ Inserted
+      → Stands (held (last config calls)) (decisionOf (turn .call .entry))
+  inserted-stands {turn} calls occurs answer =
+      let put = turn-put safe calls occurs (rw answer) in
+      let shaped = decision-call _ (turn .call) (put .permitted) (puts-cas (put .puts) answer) in
+      record { tuple = turn .call .entry; there = put .there; shape = shaped .entry; in-round = refl; of = refl }
+
+  call-held : (before behind : List Call) (call : Call) → applied (last config before) call .reply .outcome ≡ Held
+      → Stands (held (last config (before ++ (call ∷ behind)))) (decisionOf (applied (last config before) call .reply .tuple))
+  call-held before behind call answer =
+      let shows = call-shows safe before call (rw answer) in
+      let tuple = applied (last config before) call .reply .tuple in
+      let shaped = decision-call _ call (shows .permitted) (shows .shown .by-cas answer) in
+      record {
+        tuple = tuple;
+        there = stays safe before (call ∷ behind) (shows .shown .there);
+        shape = ⊎-elim (λ (p : isProposal tuple ≡ true). absurd (matched-unproposed (call .template) tuple (shaped .template) (shows .shown .matched) p))
+            (λ (d : isDecision tuple ≡ true). d) (config-rules safe before .only tuple (shows .shown .there));
+        in-round = refl;
+        of = refl;
+      }
+
+  pub held-stands : {turn : Turn} (calls : List Call) → List·Memᴰ turn (turns config calls) → turn .reply .outcome ≡ Held
+      → Stands (held (last config calls)) (decisionOf (turn .reply .tuple))
+  held-stands = by-turn config (λ calls turn. turn .reply .outcome ≡ Held → Stands (held (last config calls)) (decisionOf (turn .reply .tuple))) call-held
+
+-- ---- every decision
+
+-- what a correct process's states gave stands
+abbrev pub Logged : Config → List Call → Type 0
+Logged config calls =
+    (process : ℕ) (watch : Watch) (d : Decision) → 1 ≤ process → process ≤ config .n → judged config calls process ≡ right watch
+    → List·Memᴰ d (watch .decisions)
+    → Stands (held (last config calls)) d
+
+module _ {config : Config} {calls : List Call} (safe : SoundConfig config) (logged : Logged config calls) where
+  pub stands : {d : Decision} → GivenOut config calls d → Stands (held (last config calls)) d
+  stands (GivenOut.by-inserted turn occurs answer) = inserted-stands safe calls occurs answer
+  stands (GivenOut.by-held turn occurs answer) = held-stands safe calls occurs answer
+  stands (GivenOut.by-state process watch d some few follows given) = logged process watch d some few follows given

@@ -1,0 +1,4 @@
+pub mod Correct
+pub mod Decisions
+pub mod Laws
+pub mod Theorem

@@ -1,0 +1,66 @@
+-- Demand 3: one claim over every list of calls from a fresh space under policy 2.
+use mathlib.Core.Path.{_≡_}
+use mathlib.Core.Bool.{true}
+use mathlib.Core.List.{List, _∷_, _++_}
+use mathlib.Core.Logic.{_↔_}
+use Prim.Native.Nat.{ℕ, _+_, _-_, _*_, _≤_}
+use Rattle.runs.specs.Correct.{Decision, correct, amount, faulty}
+use Rattle.runs.specs.Decisions.{DoneProposal, hasDoneProposal, GivenOut, HasDecided, callsOf}
+use Rattle.space.specs.declared.config.Config.{Config}
+use Rattle.space.specs.declared.space.Space.{Space}
+use Rattle.space.specs.Configs.{processes}
+use Rattle.space.specs.RunLaws.{last}
+use Rattle.space.specs.Turns.{Turn, applied, turnsFrom, turns}
+use Rattle.tuple.specs.declared.field.Call.{Call}
+use Rattle.tuple.specs.declared.offset.Offset.{Offset}
+use Rattle.tuple.specs.declared.offset.Offset.the-variants.{Bottom}
+
+-- ---- the hypotheses
+
+-- a sound configuration under policy 2
+pub record SoundConfig (config : Config) : Type 0 where
+  pub some : 1 ≤ config .n
+  pub most : config .n ≤ processes
+  pub enough : 3 * config .t + 1 ≤ config .n
+  pub default : config .policy ≡ 2
+
+-- at most t of the processes 1 to n are not correct
+abbrev pub FewFaulty : Config → List Call → Type 0
+FewFaulty config calls = faulty config calls ≤ config .t
+
+-- a process from 1 to n that is correct
+pub record Correct (config : Config) (calls : List Call) (process : ℕ) : Type 0 where
+  pub some : 1 ≤ process
+  pub few : process ≤ config .n
+  pub follows : correct config calls process ≡ true
+
+-- ---- the claim
+
+-- the turn of a call on a space
+abbrev pub turnOn : Space → Call → Turn
+turnOn space call = record { call = call; reply = applied space call .reply; space = applied space call .space }
+
+pub record Run (config : Config) (calls : List Call) : Type 0 where
+  -- each call is answered, and changes the space, as `applied` has it on the space that the calls before it left; this asks nothing of processes
+  pub answered : (before behind : List Call) (call : Call) → calls ≡ before ++ (call ∷ behind)
+      → turns config calls ≡ turns config before ++ (turnOn (last config before) call ∷ turnsFrom (applied (last config before) call .space) behind)
+  -- any two decisions are equal exactly when their rounds are, however many are faulty
+  pub agreement : (d e : Decision) → GivenOut config calls d → GivenOut config calls e → (d ≡ e) ↔ (d .round ≡ e .round)
+  -- a decided offset other than bottom was proposed in that round by a correct process
+  pub validity : FewFaulty config calls → (d : Decision) → GivenOut config calls d → (d .offset ≡ Bottom → ⊥)
+      → (process : ℕ) × Correct config calls process × DoneProposal (turns config calls) (d .round) process (d .offset)
+  -- if all correct processes that proposed in a round proposed v, every decision there is v, and never bottom
+  pub unanimity : FewFaulty config calls → (round : ℕ) (v : Offset)
+      → ((process : ℕ) (w : Offset) → Correct config calls process → DoneProposal (turns config calls) round process w → w ≡ v)
+      → (d : Decision) → GivenOut config calls d → d .round ≡ round → (d .offset ≡ v) × (d .offset ≡ Bottom → ⊥)
+  -- a correct process has its decision, one of those given out, with the reply to the last of its first n + 1 calls after its own proposal and
+  -- those of n - t processes are done, at the latest, however many are faulty
+  pub promptness : (before within behind : List Call) → calls ≡ before ++ within ++ behind
+      → (process round : ℕ) → Correct config calls process
+      → (own : Offset) → DoneProposal (turns config before) round process own
+      → config .n - config .t ≤ amount (hasDoneProposal (λ code. true) (turns config before) round) (config .n) 1
+      → config .n + 1 ≤ callsOf process within
+      → (offset : Offset) × HasDecided config (before ++ within) process round offset × GivenOut config calls (record { round = round; offset = offset })
+
+abbrev pub RunTheorem : Type 0
+RunTheorem = (config : Config) (calls : List Call) → SoundConfig config → Run config calls

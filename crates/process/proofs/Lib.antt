@@ -1,3 +1,4 @@
+pub mod AnswerLaws
 pub mod FitLaws
 mod FitSteps
 pub mod KeptLaws
@@ -5,7 +6,6 @@ mod Lengths
 pub mod NextLaws
 mod OffsetSteps
 pub mod ReachLaws
-pub mod ReplyLaws
 pub mod StateLaws
 mod StateSteps
 pub mod TallyLaws

@@ -1,27 +1,30 @@
 -- The laws of the procedure, as claims over the definitions, in document 01's words.
 use mathlib.Core.Path.{_≡_}
 use mathlib.Core.Logic.{_↔_, _⊎_}
-use mathlib.Core.Bool.{true}
+use mathlib.Core.Bool.{true, false, _&&_}
 use mathlib.Core.List.{List}
 use Prim.Native.Nat.{ℕ, _+_, _-_, _≤_, _<_}
 use lib.Count.{ones}
 use lib.ListN.{length}
 use Rattle.process.specs.declared.process.Next.the-variants.{Calls, Decides, Refuses}
-use Rattle.process.specs.declared.process.Phase.the-variants.{Decided}
+use Rattle.process.specs.declared.process.Phase.the-variants.{Proposing, Decided}
 use Rattle.process.specs.declared.process.Process.{Process}
+use Rattle.process.specs.Asks.{rdpCall}
 use Rattle.process.specs.Fits.{fits}
-use Rattle.process.specs.Procedure.{started, resumed}
-use Rattle.process.specs.States.{wellFormed}
+use Rattle.process.specs.Procedure.{proposable, started, resumed}
+use Rattle.process.specs.States.{startable, known, wellFormed}
 use Rattle.process.specs.Tallies.{foundOf, backs, backing, backingSet, backed, settled, nextAfter}
 use Rattle.space.specs.declared.config.Config.{Config}
 use Rattle.space.specs.Configs.{processes}
 use Rattle.space.specs.Laws.{Member}
 use Rattle.space.specs.Proposals.{bottom}
+use Rattle.space.specs.Shapes.{inRounds}
 use Rattle.tuple.specs.declared.offset.Offset.{Offset}
 use Rattle.tuple.specs.declared.refusal.Refusal.{Refusal}
 use Rattle.tuple.specs.declared.reply.Reply.{Reply}
 use Rattle.tuple.specs.Fields.{blankCall}
 use Rattle.tuple.specs.Offsets.{offsetOf}
+use Rattle.tuple.specs.Refusals.{refusal}
 
 -- ---- a state is well formed if the procedure can reach it by fitting replies
 
@@ -34,7 +37,25 @@ pub data Reachable : Process → Type 0 where
 abbrev pub ReachableRule : Type 0
 ReachableRule = (process : Process) → length (process .found) ≡ processes → (wellFormed process ≡ true) ↔ Reachable process
 
--- ---- what a reply leaves as before
+-- ---- what starting and handing a reply answer
+
+-- starting is refused with 1, 6, 3: the first that holds
+pub record StartOrder (config : Config) (process round : ℕ) (offset : Offset) : Type 0 where
+  pub unsound : startable config ≡ false → started config process round offset .next ≡ Refuses (refusal 1)
+  pub stranger : startable config ≡ true → known config process ≡ false → started config process round offset .next ≡ Refuses (refusal 6)
+  pub beyond : startable config ≡ true → known config process ≡ true → inRounds round && proposable offset ≡ false → started config process round offset .next ≡ Refuses (refusal 3)
+
+abbrev pub StartOrders : Type 0
+StartOrders = (config : Config) (process round : ℕ) (offset : Offset) → StartOrder config process round offset
+
+-- when its proposal is done, it reads the process 1 first
+abbrev pub ReadsFirst : Type 0
+ReadsFirst =
+    (process : Process) (reply : Reply)
+    → wellFormed process ≡ true
+    → process .phase ≡ Proposing
+    → fits process reply ≡ true
+    → resumed process reply .call ≡ rdpCall (process .process) (process .round) 1
 
 -- refused, it leaves the state as before
 abbrev pub Unmoved : Type 0

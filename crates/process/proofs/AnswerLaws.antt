@@ -1,7 +1,7 @@
--- A refused reply leaves the state as before, and a decided state repeats its decision. From the definition of handing a reply.
+-- The refusals of a start in their order, the first reading, that a refused reply leaves the state as before, and that a decided state repeats its
+-- decision. From the definitions of starting a process and handing it a reply.
 use mathlib.Core.Path.{_≡_, refl}
-use mathlib.Core.Bool.{_||_, and-eq-true-iff}
-use mathlib.Core.List.{List}
+use mathlib.Core.Bool.{_||_, or-true, and-eq-true-iff}
 use Prim.Native.Nat.{ℕ}
 use native.Mathlib.Omega.{arith}
 use borrow.Table.Steps.{cases}
@@ -10,13 +10,22 @@ use Rattle.process.specs.declared.process.Phase.{Phase}
 use Rattle.process.specs.declared.process.Phase.the-variants.{Proposing, Reading, Deciding, Decided}
 use Rattle.process.specs.declared.process.Process.{Process}
 use Rattle.process.specs.Fits.{fits}
-use Rattle.process.specs.Laws.{Unmoved, Repeats}
-use Rattle.process.specs.Procedure.{turned, noted, advanced, isDecided, resumed}
+use Rattle.process.specs.Laws.{StartOrders, ReadsFirst, Unmoved, Repeats}
+use Rattle.process.specs.Procedure.{started, noted, advanced, isDecided, resumed}
 use Rattle.process.specs.States.{foundSound, wellFormed}
 use Rattle.process.specs.Tallies.{settled}
 use Rattle.process.proofs.StateLaws.{formed-parts, none-at, none-found}
 use Rattle.tuple.specs.declared.refusal.Refusal.{Refusal}
 use Rattle.tuple.specs.declared.reply.Reply.{Reply}
+
+pub start-order : StartOrders
+unfolding started
+start-order config process round offset =
+    record { unsound = λ e. rw e; stranger = λ start e. rw (start, e); beyond = λ start member e. rw (start, member, e) }
+
+pub reads-first : ReadsFirst
+unfolding resumed
+reads-first process reply formed proposing fit = rw (formed, fit, or-true, proposing)
 
 -- what a reply that fits leads to is no refusal
 advances : (process : Process) (reply : Reply) (phase : Phase) (why : Refusal) → advanced process reply phase .next ≡ Refuses why → ⊥

@@ -140,7 +140,7 @@ has-proposed tuples round process w = (
 
 -- ---- policy 2: the offset of an entry is at most the largest
 
-absent : (fault : Fault) → isAbsent fault ≡ true → fault ≡ Absent
+pub absent : (fault : Fault) → isAbsent fault ≡ true → fault ≡ Absent
 absent Absent h = refl
 absent (Present refusal) h = absurd (false≢true h)
 

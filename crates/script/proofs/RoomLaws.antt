@@ -1,15 +1,17 @@
 -- How long the text of a whole script is at most, so that its buffer has room: line by line, from the bounds of lines and records.
-use mathlib.Core.Path.{_≡_, refl, ap}
+use mathlib.Core.Path.{_≡_, refl, sym, ap, _∙_}
 use Prim.Native.Nat.{ℕ, zero, suc, _+_, _-_, _*_, _≤_, _<_}
 use native.Mathlib.Omega.{arith}
 use mathlib.Core.Bool.{true}
-use mathlib.Core.List.{List}
-use lib.ListN.{length, length-append}
+use mathlib.Core.List.{List, _++_}
+use lib.ListN.{length, drop, length-append}
 use lib.Dec.{leb, ltb}
 use borrow.Author.Tests.{le-leb, leb-true, ltb-true, ltb-false}
 use borrow.Table.Steps.{cases}
+use Rattle.script.specs.declared.run.Printed.{Printed}
+use Rattle.script.specs.declared.run.Printed.the-variants.{Length, Unprinted}
 use Rattle.script.specs.Laws.{TextMost, AlwaysRoom}
-use Rattle.script.specs.Printing.{linesOn, printed, opened, text, textBytes, printedOf}
+use Rattle.script.specs.Printing.{linesOn, printed, opened, text, textBytes, printedOf, leftOf}
 use Rattle.script.specs.Scripts.{scriptBytes, recordsAt, configStep, configOf, ran}
 use Rattle.script.specs.Texts.{configLine, replyLine, unreadLine, heldLine}
 use Rattle.script.proofs.LengthLaws.{two-digits, refused-most, line-most, unread-most, held-most}
@@ -120,3 +122,17 @@ text-room s bytes =
 pub always-room : AlwaysRoom
 unfolding printedOf
 always-room s room bytes large = rw (le-leb (length (text s)) room (omega (arith, text-room s bytes)))
+
+-- ---- what a caller may take from the buffer
+
+pub printed-inside : (s buffer left : List ℕ) (answer : Printed) (n : ℕ) → answer ≡ printedOf s (length buffer) → left ≡ leftOf s buffer → answer ≡ Length n → n ≤ length left
+unfolding printedOf leftOf
+printed-inside s buffer left answer n said kept told =
+    cases (leb (length (text s)) (length buffer))
+    (λ e. let same : Length n ≡ Length (length (text s)) = sym told ∙ said ∙ rw e in
+    let long : left ≡ text s ++ drop (length (text s)) buffer = kept ∙ rw e in
+    let end : n ≡ length (text s) = cc in
+    omega (arith, ap length long, length-append (text s) (drop (length (text s)) buffer)))
+    (λ e. let other : Length n ≡ Unprinted (refusal 10) = sym told ∙ said ∙ rw e in
+    let z : _≡_ {A = ℕ} 0 1 = cc in
+    absurd (omega arith))

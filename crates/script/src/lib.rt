@@ -6,6 +6,7 @@ mod setup;
 mod text;
 
 pub use run::Printed;
+pub use run::blank;
 pub use run::print;
 
 // The most bytes of a script, and of a text.

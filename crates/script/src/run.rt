@@ -2,13 +2,14 @@
 ghost use mathlib.Core.Path.{_≡_};
 ghost use mathlib.Core.Bool.{true};
 ghost use Prim.Native.Nat.{_+_, _≤_};
-ghost use lib.ListN.{length};
+ghost use lib.ListN.{length, replicate};
 ghost use lib.Seq.{sets};
 ghost use Rattle.script.specs.Printing.{linesOn, opened, text, textBytes, printedOf, leftOf};
 ghost use Rattle.script.specs.Scripts.{recordsAt};
 ghost use Rattle.space.specs.Spaces.{wellFormed};
 ghost use Rattle.varint.specs.Laws.{Bytes};
 use crate::SCRIPT_BYTES;
+use crate::TEXT_BYTES;
 use crate::line::put_config;
 use crate::line::put_held;
 use crate::line::put_line;
@@ -41,6 +42,13 @@ pub fn print(script: &[u8], buffer: &mut [u8]) -> Printed
     }
     put_script(buffer, script);
     Printed::Length(n)
+}
+
+// A buffer that has room for the text of every script.
+pub fn blank() -> [u8; TEXT_BYTES]
+    ensures { λ r. ⌜ r ≡ replicate textBytes 0 ⌝ }
+{
+    [0; TEXT_BYTES]
 }
 
 // A script's text, from the start of the buffer.

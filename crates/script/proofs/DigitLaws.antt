@@ -1,12 +1,14 @@
 -- The digits that `io::decimal` makes are those of `decimal`, and how many a number has at most.
-use mathlib.Core.Path.{_≡_}
-use Prim.Native.Nat.{ℕ, zero, suc, _-_, _/_, _%_, _^_, _≤_, _<_}
+use mathlib.Core.Path.{_≡_, refl, ap, _∙_}
+use Prim.Native.Nat.{ℕ, zero, suc, _-_, _/_, _%_, _^_, _≤_, _<_, _+_, _*_}
 use native.Mathlib.Nat.{pow-succ', one-le-pow}
 use native.Mathlib.Omega.{arith}
+use mathlib.Core.Bool.{cond}
 use mathlib.Core.List.{List, [], _∷_, _++_}
 use lib.ListN.{length, length-append}
 use lib.Dec.{ltb}
-use borrow.Author.Tests.{lt-ltb, le-ltb}
+use borrow.Author.Tests.{lt-ltb, le-ltb, ltb-true, ltb-false}
+use borrow.Table.Steps.{cases}
 use Rattle.io.specs.Digits.{glyph, digits, Fewest}
 use Rattle.script.specs.Digits.{digit, decimalFrom, decimal}
 use Rattle.varint.proofs.ReadingLaws.{picked}
@@ -58,3 +60,49 @@ digits-most (suc k) (suc most) n high =
 pub decimal-most : (k n : ℕ) → n < 10 ^ suc k → length (decimal n) ≤ suc k
 unfolding decimal
 decimal-most k n high = digits-most k n n high
+
+-- ---- what they are
+
+-- each is a digit
+abbrev pub AllDigits : List ℕ → Type 0
+AllDigits [] = Unit {0}
+AllDigits (d ∷ l) = (48 ≤ d) × (d ≤ 57) × AllDigits l
+
+digits-snoc : (l : List ℕ) (n : ℕ) → AllDigits l → AllDigits (l ++ (digit (n % 10) ∷ []))
+digits-snoc [] n h = (omega arith, omega arith, tt)
+digits-snoc (d ∷ l) n h = (h .0, h .1, digits-snoc l n (h .2))
+
+digits-all : (most n : ℕ) → AllDigits (decimalFrom most n)
+unfolding decimalFrom
+digits-all zero n = digits-snoc [] n tt
+digits-all (suc most) n = digits-snoc (cond (ltb n 10) [] (decimalFrom most (n / 10))) n (picked AllDigits (ltb n 10) (λ e. tt) (λ e. digits-all most (n / 10)))
+
+pub decimal-all : (n : ℕ) → AllDigits (decimal n)
+unfolding decimal
+decimal-all n = digits-all n n
+
+-- ---- the number that they say
+
+pub valueFrom : ℕ → List ℕ → ℕ
+valueFrom v [] = v
+valueFrom v (d ∷ l) = valueFrom (10 * v + (d - 48)) l
+
+value-snoc : (l : List ℕ) (v d : ℕ) → valueFrom v (l ++ (d ∷ [])) ≡ 10 * valueFrom v l + (d - 48)
+unfolding valueFrom
+value-snoc [] v d = refl
+value-snoc (c ∷ l) v d = value-snoc l (10 * v + (c - 48)) d
+
+digits-value : (most n : ℕ) → n ≤ most → valueFrom 0 (decimalFrom most n) ≡ n
+unfolding decimalFrom valueFrom
+digits-value zero n few = omega arith
+digits-value (suc most) n few =
+    cases (ltb n 10)
+    (λ e. rw e (omega (arith, ltb-true n 10 e)))
+    (λ e. rw e (value-snoc (decimalFrom most (n / 10)) 0 (digit (n % 10)) ∙ ap (λ (v : ℕ). 10 * v + (digit (n % 10) - 48)) (digits-value most (n / 10) (omega (arith, ltb-false n 10 e))) ∙ whole n))
+  where
+    whole : (n : ℕ) → 10 * (n / 10) + (digit (n % 10) - 48) ≡ n
+    whole n = omega arith
+
+pub decimal-value : (n : ℕ) → valueFrom 0 (decimal n) ≡ n
+unfolding decimal
+decimal-value n = digits-value n n (omega arith)

@@ -5,7 +5,7 @@ use native.Mathlib.Nat.{pow-succ', one-le-pow}
 use native.Mathlib.Omega.{arith}
 use mathlib.Core.Bool.{cond}
 use mathlib.Core.List.{List, [], _∷_, _++_}
-use lib.ListN.{length, length-append}
+use lib.ListN.{length, getD, length-append}
 use lib.Dec.{ltb}
 use borrow.Author.Tests.{lt-ltb, le-ltb, ltb-true, ltb-false}
 use borrow.Table.Steps.{cases}
@@ -80,6 +80,20 @@ digits-all (suc most) n = digits-snoc (cond (ltb n 10) [] (decimalFrom most (n /
 pub decimal-all : (n : ℕ) → AllDigits (decimal n)
 unfolding decimal
 decimal-all n = digits-all n n
+
+-- the first is one
+snoc-first : (l : List ℕ) (n : ℕ) → AllDigits l → 48 ≤ getD (l ++ (digit (n % 10) ∷ [])) 0 0
+snoc-first [] n h = omega arith
+snoc-first (d ∷ l) n h = h .0
+
+digits-first : (most n : ℕ) → 48 ≤ getD (decimalFrom most n) 0 0
+unfolding decimalFrom
+digits-first zero n = snoc-first [] n tt
+digits-first (suc most) n = snoc-first (cond (ltb n 10) [] (decimalFrom most (n / 10))) n (picked AllDigits (ltb n 10) (λ e. tt) (λ e. digits-all most (n / 10)))
+
+pub decimal-first : (n : ℕ) → 48 ≤ getD (decimal n) 0 0
+unfolding decimal
+decimal-first n = digits-first n n
 
 -- ---- the number that they say
 

@@ -13,7 +13,7 @@ use Rattle.script.specs.Digits.{decimal}
 use Rattle.script.specs.Laws.{cutFrom, linesOf, numbered, unread, LineRule}
 use Rattle.script.specs.Printing.{linesFrom, printed, text}
 use Rattle.script.specs.Scripts.{Ran}
-use Rattle.script.specs.Texts.{feed, gap, doneText, noneText, insertedText, foundText, heldText, refusedText, boardText, tuplesText, spaced, offsetText, valueText, letterText, fieldText, fieldsText, tupleText, refusalText, outcomeText, replyText, configLine, replyLine, refusedLine, unreadLine, heldLine}
+use Rattle.script.specs.Texts.{feed, gap, minus, underline, doneText, noneText, insertedText, foundText, heldText, refusedText, boardText, tuplesText, spaced, offsetText, valueText, letterText, fieldText, fieldsText, tupleText, refusalText, outcomeText, replyText, configLine, replyLine, refusedLine, unreadLine, heldLine}
 use Rattle.script.proofs.DigitLaws.{AllDigits, decimal-all}
 use Rattle.space.specs.declared.config.Config.{Config}
 use Rattle.space.specs.declared.space.Space.{Space}
@@ -81,10 +81,10 @@ unfolding Plain spaced
 spaced-plain n = (refl, decimal-plain n)
 
 offset-plain : (o : Offset) → Plain (offsetText o)
-unfolding Plain
-offset-plain Bottom = (refl, tt)
+unfolding plain
+offset-plain Bottom = plain-test underline refl
 offset-plain (Hundredths (pos z)) = decimal-plain z
-offset-plain (Hundredths (negsuc k)) = (refl, decimal-plain (k + 1))
+offset-plain (Hundredths (negsuc k)) = plain-both minus (decimal (k + 1)) (plain-test minus refl) (decimal-plain (k + 1))
 
 letter-plain : (kind : ℕ) → Plain (letterText kind)
 unfolding plain letterText

@@ -3,11 +3,12 @@ use mathlib.Core.Path.{_≡_, refl, sym, ap, _∙_, subst}
 use Prim.Native.Nat.{ℕ, _+_}
 use native.Mathlib.Omega.{arith}
 use mathlib.Core.List.{List, _++_}
+use lib.ListN.{getD}
 use lib.IntN.{pos, negsuc}
 use Rattle.script.specs.Digits.{decimal}
 use Rattle.script.specs.Laws.{OffsetTexts}
 use Rattle.script.specs.Texts.{minus, underline}
-use Rattle.script.proofs.DigitLaws.{AllDigits, decimal-all, valueFrom, decimal-value}
+use Rattle.script.proofs.DigitLaws.{AllDigits, decimal-all, decimal-first, valueFrom, decimal-value}
 use Rattle.tuple.specs.declared.offset.Offset.the-variants.{Bottom, Hundredths}
 
 same-number : (m n : ℕ) → decimal m ≡ decimal n → m ≡ n
@@ -17,7 +18,7 @@ no-underline : (n : ℕ) → decimal n ≡ underline → ⊥
 no-underline n e = omega (arith, subst AllDigits e (decimal-all n))
 
 no-minus : (n : ℕ) (l : List ℕ) → decimal n ≡ minus ++ l → ⊥
-no-minus n l e = omega (arith, subst AllDigits e (decimal-all n) .0)
+no-minus n l e = omega (arith, decimal-first n, ap (λ (k : List ℕ). getD k 0 0) e)
 
 pub offset-texts : OffsetTexts
 offset-texts Bottom Bottom e = refl

@@ -33,7 +33,7 @@ put-number-requires : tie.Need-put-number-requires
 put-number-requires c κs =
     let i = c .before .before in
     let s = i .before .before in
-    room-as (s .args .at) textBytes (offset-positive (s .args .code) (i .if1 .left) (c .before .if2 .taken)) (s .pre)
+    room-as (s .args .at) textBytes (offset-positive (s .args .code) (i .if1 .left) (omega (arith, c .before .if2 .taken))) (s .pre)
 
 same-length-2 : tie.Need-same-length-2
 same-length-2 c = search needs
@@ -43,7 +43,7 @@ returns-2 c =
     let p = c .before .before in
     let i = p .before .before .before in
     let a = i .before .before .args in
-    wrote-as (a .out .now) (a .at) (offset-positive (a .code) (i .if1 .left) (p .before .before .if2 .taken)) (p .put-number .ensures)
+    wrote-as (a .out .now) (a .at) (offset-positive (a .code) (i .if1 .left) (omega (arith, p .before .before .if2 .taken))) (p .put-number .ensures)
 
 slice-aggregate-put-2 : tie.Need-slice-aggregate-put-2
 slice-aggregate-put-2 c = search needs

@@ -26,15 +26,15 @@ room c = text-room (c .before .before .args .script .now) (script-bytes c)
 opens : (c : tie.After-next) → let r = c .before .before .before in let s = c .before .before .before .before .before .before .before .args .script .now in text s ≡ opened (r .read-config .result .config) s (c .next .given .0 .0 .at)
 opens c =
     let r = c .before .before .before in
-    text-opened (c .before .before .before .before .before .before .before .args .script .now) (r .before .if1 .left) (r .read-config .result) (r .read-config .ensures) (c .next .given .0 .0) (c .next .given .1)
+    text-opened (c .before .before .before .before .before .before .before .args .script .now) (omega (arith, r .before .if1 .left)) (r .read-config .result) (r .read-config .ensures) (c .next .given .0 .0) (c .next .given .1)
 
 refuses : (c : tie.After-next2) → text (c .before .before .before .before .before .before .before .args .script .now) ≡ refusedLine (c .next2 .given .0 .0)
 refuses c =
     let r = c .before .before .before in
-    text-refused (c .before .before .before .before .before .before .before .args .script .now) (r .before .if1 .left) (r .read-config .result) (r .read-config .ensures) (c .next2 .given .0 .0) (c .next2 .given .1)
+    text-refused (c .before .before .before .before .before .before .before .args .script .now) (omega (arith, r .before .if1 .left)) (r .read-config .result) (r .read-config .ensures) (c .next2 .given .0 .0) (c .next2 .given .1)
 
 put-refused-requires : tie.Need-put-refused-requires
-put-refused-requires c κs = let k = c .before .before in omega (arith, ap length (text-long (k .before .before .args .script .now) (c .before .if1 .taken)), room k)
+put-refused-requires c κs = let k = c .before .before in omega (arith, ap length (text-long (k .before .before .args .script .now) (omega (arith, c .before .if1 .taken))), room k)
 
 same-length : tie.Need-same-length
 same-length c = search needs
@@ -44,7 +44,7 @@ returns c =
     let q = c .before .before in
     let i = q .before .before in
     let a = i .before .before .before .args in
-    from-start (a .out .now) (text (a .script .now)) (wrote-as (a .out .now) 0 (sym (text-long (a .script .now) (i .if1 .taken))) (q .put-refused .ensures))
+    from-start (a .out .now) (text (a .script .now)) (wrote-as (a .out .now) 0 (sym (text-long (a .script .now) (omega (arith, i .if1 .taken)))) (q .put-refused .ensures))
 
 read-config-requires : tie.Need-read-config-requires
 read-config-requires c κs = search needs

@@ -2,8 +2,8 @@ pub mod Edge
 mod FieldsLaws
 mod HeadLaws
 pub mod Length
-mod NumberLaws
+pub mod NumberLaws
 pub mod OnlyForm
 pub mod ReadBack
-mod Steps
-mod WrittenLaws
+pub mod Steps
+pub mod WrittenLaws

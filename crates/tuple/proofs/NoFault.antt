@@ -79,7 +79,7 @@ tuple-sound entry tuple h =
 
 -- ---- an entry of a space
 
-absent : (fault : Fault) → isAbsent fault ≡ true → fault ≡ Absent
+pub absent : (fault : Fault) → isAbsent fault ≡ true → fault ≡ Absent
 absent Absent h = refl
 absent (Present refusal) h = absurd (false≢true h)
 

@@ -1,0 +1,11 @@
+mod DigitLaws
+pub mod FeedLaws
+mod LengthLaws
+mod LineLaws
+mod RecordLaws
+pub mod RoomLaws
+pub mod RunLaws
+mod ScriptLaws
+pub mod SignLaws
+mod Stores
+mod TextLaws

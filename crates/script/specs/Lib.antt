@@ -1,0 +1,5 @@
+pub mod Digits
+pub mod Laws
+pub mod Printing
+pub mod Scripts
+pub mod Texts

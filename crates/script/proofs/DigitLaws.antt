@@ -37,14 +37,13 @@ few-digits : (n k : ℕ) → (1 ≤ k → 10 ^ k ≤ n) → k ≤ n
 few-digits n zero low = omega arith
 few-digits n (suc k) low = omega (arith, low (omega arith), below-power (suc k))
 
-sub-one : (k : ℕ) → suc k - 1 ≡ k
-sub-one k = omega arith
-
 pub fewest-decimal : (n k : ℕ) → Fewest 10 1 n k → digits 10 k n ≡ decimal n
 unfolding decimal
 fewest-decimal n zero fewest = absurd (omega arith)
 fewest-decimal n (suc k) fewest =
-    let low : 1 ≤ k → 10 ^ k ≤ n = λ some. rw (sub-one k) at (fewest .2 (omega arith)) in digits-from k n n (few-digits n k low) (fewest .1) low
+    let same : suc k - 1 ≡ k = omega arith in
+    let low : 1 ≤ k → 10 ^ k ≤ n = λ some. rw same at (fewest .2 (omega arith)) in
+    digits-from k n n (few-digits n k low) (fewest .1) low
 
 -- ---- how many
 

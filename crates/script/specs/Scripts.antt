@@ -69,7 +69,7 @@ unfoldable pub recordsFrom : ℕ → List ℕ → ℕ → Records
 recordsFrom zero s at = ended Absent
 recordsFrom (suc most) s at = cond (ltb at (length s)) (recordStep (callAt s at) (recordsFrom most s)) (ended Absent)
 
--- every record has a byte
+-- each record takes a byte at least, so that no more stand there than the script has bytes
 unfoldable pub recordsAt : List ℕ → ℕ → Records
 recordsAt s at = recordsFrom (length s) s at
 

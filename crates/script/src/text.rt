@@ -1,5 +1,5 @@
 // Bytes and numbers put one behind the other. Each function answers the place behind what it put. What would stand behind the
-// buffer's end is counted and not stored, so that an empty buffer measures a text.
+// buffer's end is counted and not stored, so that a buffer of any length measures a text.
 ghost use mathlib.Core.Path.{_≡_};
 ghost use Prim.Native.Nat.{_+_, _≤_};
 ghost use lib.ListN.{length, set};

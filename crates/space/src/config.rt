@@ -9,6 +9,7 @@ pub const ROUNDS: u64 = 8;
 
 pub const POLICIES: u64 = 2;
 
+#[repr(C)]
 pub struct Config {
     pub n: u64,
     pub t: u64,

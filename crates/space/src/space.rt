@@ -8,6 +8,7 @@ use tuple::Reply;
 use tuple::TUPLES;
 use tuple::Tuple;
 
+#[repr(C)]
 pub struct Space {
     pub config: Config,
     pub count: usize,

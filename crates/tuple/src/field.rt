@@ -50,6 +50,7 @@ pub const LARGEST_CODE: u64 = 200_001;
 pub const LARGEST_SET: u64 = 32_767;
 
 // A field: its kind, its state and its value. An offset's value is its code.
+#[repr(C)]
 pub struct Field {
     pub kind: u8,
     pub state: u8,
@@ -57,12 +58,14 @@ pub struct Field {
 }
 
 // A tuple: how many fields it has, and six places for them.
+#[repr(C)]
 pub struct Tuple {
     pub count: usize,
     pub fields: [Field; FIELDS],
 }
 
 // A call: the process (01's seat) that calls, the call's code, and its template and entry.
+#[repr(C)]
 pub struct Call {
     pub process: u32,
     pub code: u8,

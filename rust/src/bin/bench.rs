@@ -1,0 +1,200 @@
+//! The proved library and the plain Rust version side by side: same inputs, interleaved, medians of many rounds.
+//!
+//!     bench [the proved program board] [the Rust program board]
+//!
+//! With the two programs it times them too, from standard input to standard output.
+
+use std::fs::File;
+use std::hint::black_box;
+use std::io::Write;
+use std::process::{Command, Stdio};
+use std::time::{Duration, Instant};
+
+use reference::records::{read_record, record_of};
+use reference::{flat, script, sys};
+use reference::{Answer, Board, Call, Config, Field, Kind, Offset, Seat, Step, Tuple};
+
+const FULL: Config = Config { n: 15, t: 4, policy: 2 };
+
+/// The medians of both sides, measured in turn.
+fn medians(rounds: usize, mut ours: impl FnMut(), mut plain: impl FnMut()) -> (Duration, Duration) {
+    let time = |work: &mut dyn FnMut()| {
+        let start = Instant::now();
+        work();
+        start.elapsed()
+    };
+    let (mut a, mut b) = (Vec::new(), Vec::new());
+    for round in 0..rounds + 2 {
+        // The first two rounds warm up; the side that goes first changes.
+        let (x, y) = if round % 2 == 0 {
+            let x = time(&mut ours);
+            (x, time(&mut plain))
+        } else {
+            let y = time(&mut plain);
+            (time(&mut ours), y)
+        };
+        if round >= 2 {
+            a.push(x);
+            b.push(y);
+        }
+    }
+    a.sort();
+    b.sort();
+    (a[a.len() / 2], b[b.len() / 2])
+}
+
+fn line(name: &str, (ours, plain): (Duration, Duration)) {
+    let ratio = ours.as_secs_f64() / plain.as_secs_f64();
+    let micros = |time: Duration| time.as_secs_f64() * 1e6;
+    println!("{name:<58} {:>11.1} {:>11.1} {ratio:>7.2}", micros(ours), micros(plain));
+}
+
+/// Records of all four calls, one behind the other.
+fn records() -> Vec<u8> {
+    let mut bytes = Vec::new();
+    for k in 0..1000u64 {
+        let (round, seat) = (k % 8, 1 + k % 15);
+        let offset = 1 + k * 7919 % Offset::LAST;
+        let call = match k % 4 {
+            0 => Call::out(seat as u32, Tuple::proposal(round, seat, offset)),
+            1 => Call::rdp(seat as u32, Tuple::proposal_template(round, seat)),
+            2 => Call::inp(
+                seat as u32,
+                Tuple::of(&[Field::given(Kind::Count, k * 65_537), Field::any(Kind::Word)]),
+            ),
+            _ => Call::cas(seat as u32, Tuple::decision_template(round), Tuple::decision(round, offset, k)),
+        };
+        bytes.extend(record_of(&call).expect("a sound call"));
+    }
+    bytes
+}
+
+fn read_ours(bytes: &[u8]) {
+    let mut at = 0;
+    while at < bytes.len() {
+        let read = black_box(sys::read(bytes, at));
+        assert_eq!(read.refusal, 0);
+        at = read.next;
+    }
+}
+
+fn read_plain(bytes: &[u8]) {
+    let mut at = 0;
+    while at < bytes.len() {
+        let (_, taken) = black_box(read_record(&bytes[at..])).expect("a record");
+        at += taken;
+    }
+}
+
+/// The hundredths that seat k proposes in a round.
+fn choice(round: u64, k: u32) -> i32 {
+    (k as i32 + round as i32) % (round as i32 + 1) * 50 - 100
+}
+
+/// Eight rounds in which all fifteen follow; how many calls were made.
+fn rounds_ours() -> usize {
+    let config = flat::config(&FULL);
+    let mut space = sys::fresh(config).space;
+    let mut calls = 0;
+    for round in 0..8 {
+        let mut steps: Vec<sys::Step> =
+            (1..=15).map(|k| sys::start(config, k, round, 0, choice(round, k))).collect();
+        while steps.iter().any(|step| step.next == 0) {
+            for step in &mut steps {
+                if step.next == 0 {
+                    let applied = sys::apply(space, step.call);
+                    space = applied.space;
+                    *step = sys::resume(step.process, applied.reply);
+                    calls += 1;
+                }
+            }
+        }
+    }
+    assert_eq!(space.count, 128);
+    calls
+}
+
+fn rounds_plain() -> usize {
+    let mut board = Board::fresh(FULL).expect("a sound set-up");
+    let mut calls = 0;
+    for round in 0..8 {
+        let start = |k| {
+            let offset = Offset::Number(choice(round, k).into()).travelling().expect("in range");
+            let (seat, out) = Seat::start(FULL, k, round, offset).expect("a seat that may start");
+            (seat, Some(out))
+        };
+        let mut seats: Vec<(Seat, Option<Call>)> = (1..=15).map(start).collect();
+        while seats.iter().any(|(_, due)| due.is_some()) {
+            for (seat, due) in &mut seats {
+                if let Some(call) = due.take() {
+                    let answer = Answer::from(board.call(&call));
+                    let (next, step) = seat.hand(&answer).expect("the board's answer fits");
+                    *seat = next;
+                    if let Step::Call(call) = step {
+                        *due = Some(call);
+                    }
+                    calls += 1;
+                }
+            }
+        }
+    }
+    assert_eq!(board.count, 128);
+    calls
+}
+
+/// A bare board filled with 128 tuples, then rdp and cas in turn up to the longest script.
+fn long_script() -> Vec<u8> {
+    let mut bytes = vec![15, 4, 0];
+    let entry = |k: u64| Tuple::of(&[Field::given(Kind::Count, k), Field::given(Kind::Offset, 1 + k)]);
+    for k in 0..128 {
+        bytes.extend(record_of(&Call::out(1, entry(k))).expect("a sound call"));
+    }
+    for k in 0.. {
+        let template = Tuple::of(&[Field::given(Kind::Count, k * 37 % 128), Field::open(Kind::Offset)]);
+        let call = if k % 2 == 0 { Call::rdp(2, template) } else { Call::cas(3, template, entry(k)) };
+        let record = record_of(&call).expect("a sound call");
+        if bytes.len() + record.len() > script::LONGEST_SCRIPT {
+            break;
+        }
+        bytes.extend(record);
+    }
+    bytes.resize(script::LONGEST_SCRIPT, 1);
+    bytes
+}
+
+fn run_program(program: &str, input: &str) {
+    let input = File::open(input).expect("the script");
+    let mut run = Command::new(program);
+    let status = run.stdin(input).stdout(Stdio::null()).status().expect("the program runs");
+    assert!(status.success());
+}
+
+fn main() {
+    println!("{:<58} {:>11} {:>11} {:>7}", "median time in µs", "proved", "plain Rust", "ratio");
+    let bytes = records();
+    line("a  reading 1,000 records", medians(301, || read_ours(&bytes), || read_plain(&bytes)));
+
+    let calls = rounds_plain();
+    assert_eq!(rounds_ours(), calls);
+    let rounds = medians(41, || _ = black_box(rounds_ours()), || _ = black_box(rounds_plain()));
+    line(&format!("b  eight rounds, n = 15, t = 4, all follow: {calls} calls"), rounds);
+
+    let long = long_script();
+    let (mut text, mut other) = (vec![0; 2_000_000], vec![0; 2_000_000]);
+    let length = sys::script(&long, &mut text).expect("a text");
+    assert_eq!(script::run_into(&long, &mut other), Ok(length));
+    assert_eq!(text, other);
+    let ours = || _ = black_box(sys::script(&long, &mut text));
+    let plain = || _ = black_box(script::run_into(&long, &mut other));
+    line("c  a script of 65,536 bytes, rdp and cas on a full board", medians(21, ours, plain));
+
+    let programs: Vec<String> = std::env::args().skip(1).collect();
+    if let [ours, plain] = programs.as_slice() {
+        let path = std::env::temp_dir().join(format!("board-bench-{}", std::process::id()));
+        File::create(&path).and_then(|mut file| file.write_all(&long)).expect("a temporary file");
+        let name = path.to_str().expect("a plain path");
+        let times = medians(21, || run_program(ours, name), || run_program(plain, name));
+        line("d  the same script through the programs", times);
+        std::fs::remove_file(&path).expect("the temporary file");
+    }
+}

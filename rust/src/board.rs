@@ -1,0 +1,313 @@
+//! The board: set-up, well-formedness, the four calls (01, "Calls").
+
+use crate::fields::Tuple;
+use crate::policy;
+use crate::records::{Call, Code};
+use crate::refusal::Refusal;
+
+/// Most tuples a board holds.
+pub const MOST_TUPLES: usize = 128;
+
+/// Most seats.
+pub const MOST_SEATS: usize = 15;
+
+/// A set-up as a plain value that can hold anything.
+#[derive(Clone, Copy, Debug, Default, PartialEq, Eq, Hash)]
+pub struct Config {
+    /// How many seats there are.
+    pub n: u64,
+    /// How many of them may stray.
+    pub t: u64,
+    /// The policy's number.
+    pub policy: u64,
+}
+
+impl Config {
+    /// Refused 1 unless n is 1 to 15, n is at least 3t + 1 and the policy is 0 to 2.
+    pub fn check(&self) -> Result<(), Refusal> {
+        let seats = 1..=MOST_SEATS as u64;
+        // n >= 3t + 1 without a sum that wraps: t <= (n - 1) / 3.
+        let sound = seats.contains(&self.n) && self.t <= (self.n - 1) / 3 && self.policy <= 2;
+        sound.then_some(()).ok_or(Refusal::Unsound)
+    }
+
+    /// Whether this is a seat from 1 to n.
+    pub fn has_seat(&self, seat: u64) -> bool {
+        (1..=self.n).contains(&seat)
+    }
+}
+
+/// What a call is answered with.
+#[derive(Clone, Copy, Debug, PartialEq, Eq, Hash)]
+pub enum AnswerKind {
+    Done,
+    None,
+    Inserted,
+    Found,
+    Held,
+    Refused(Refusal),
+}
+
+/// An answer as a plain value. Only found and held use the tuple.
+#[derive(Clone, Copy, Debug, PartialEq, Eq, Hash)]
+pub struct Answer {
+    pub kind: AnswerKind,
+    pub tuple: Tuple,
+}
+
+impl Answer {
+    /// The out's tuple was appended.
+    pub const DONE: Answer = Answer::bare(AnswerKind::Done);
+    /// No tuple matches.
+    pub const NONE: Answer = Answer::bare(AnswerKind::None);
+    /// The cas's entry was appended.
+    pub const INSERTED: Answer = Answer::bare(AnswerKind::Inserted);
+
+    /// An answer with its tuple blank.
+    pub const fn bare(kind: AnswerKind) -> Answer {
+        Answer { kind, tuple: Tuple::BLANK }
+    }
+
+    /// The oldest tuple that matches the template of an rdp or inp.
+    pub const fn found(tuple: Tuple) -> Answer {
+        Answer { kind: AnswerKind::Found, tuple }
+    }
+
+    /// The oldest tuple that matches the template of a cas.
+    pub const fn held(tuple: Tuple) -> Answer {
+        Answer { kind: AnswerKind::Held, tuple }
+    }
+}
+
+impl From<Refusal> for Answer {
+    fn from(refusal: Refusal) -> Answer {
+        Answer::bare(AnswerKind::Refused(refusal))
+    }
+}
+
+impl From<Result<Answer, Refusal>> for Answer {
+    fn from(result: Result<Answer, Refusal>) -> Answer {
+        result.unwrap_or_else(Answer::from)
+    }
+}
+
+/// A board as a plain value that can hold anything: a list of tuples, oldest
+/// first, in the front places of `tuples`.
+#[derive(Clone, Debug, PartialEq, Eq)]
+pub struct Board {
+    pub config: Config,
+    pub count: usize,
+    pub tuples: [Tuple; MOST_TUPLES],
+}
+
+impl Board {
+    /// An empty board with this set-up, if it is sound.
+    pub fn fresh(config: Config) -> Result<Board, Refusal> {
+        config.check()?;
+        Ok(Board { config, count: 0, tuples: [Tuple::BLANK; MOST_TUPLES] })
+    }
+
+    /// The tuples held, oldest first.
+    pub fn held(&self) -> &[Tuple] {
+        &self.tuples[..self.count.min(MOST_TUPLES)]
+    }
+
+    /// Refused 1 unless the board is well formed: a sound set-up, at most 128
+    /// tuples, each an entry within its kinds' ranges, and unused places zero.
+    pub fn check(&self) -> Result<(), Refusal> {
+        self.config.check()?;
+        let well_formed = self.count <= MOST_TUPLES
+            && self.held().iter().all(Tuple::is_entry)
+            && self.tuples[self.held().len()..].iter().all(|place| *place == Tuple::BLANK);
+        well_formed.then_some(()).ok_or(Refusal::Unsound)
+    }
+
+    /// Obeys a call, or refuses it and leaves the board as it was: 1, then 3
+    /// to 5 in record order with unused parts last, then 6, 7, 8.
+    pub fn call(&mut self, call: &Call) -> Result<Answer, Refusal> {
+        self.check()?;
+        let code = call.check()?;
+        if !self.config.has_seat(call.process.into()) {
+            return Err(Refusal::Seat);
+        }
+        if !policy::permits(self, code, call) {
+            return Err(Refusal::Denied);
+        }
+        match code {
+            Code::Out => self.append(&call.entry).map(|()| Answer::DONE),
+            Code::Rdp => Ok(match self.oldest(&call.template) {
+                Some(place) => Answer::found(self.tuples[place]),
+                None => Answer::NONE,
+            }),
+            Code::Inp => Ok(match self.oldest(&call.template) {
+                Some(place) => Answer::found(self.take(place)),
+                None => Answer::NONE,
+            }),
+            Code::Cas => match self.oldest(&call.template) {
+                Some(place) => Ok(Answer::held(self.tuples[place])),
+                None => self.append(&call.entry).map(|()| Answer::INSERTED),
+            },
+        }
+    }
+
+    /// The place of the oldest tuple that matches.
+    fn oldest(&self, template: &Tuple) -> Option<usize> {
+        self.held().iter().position(|tuple| template.matches(tuple))
+    }
+
+    /// Appends an entry, or refuses 8.
+    fn append(&mut self, entry: &Tuple) -> Result<(), Refusal> {
+        let place = self.tuples.get_mut(self.count).ok_or(Refusal::Full)?;
+        *place = *entry;
+        self.count += 1;
+        Ok(())
+    }
+
+    /// Takes off the tuple at this place, the rest keeping their order.
+    fn take(&mut self, place: usize) -> Tuple {
+        let taken = self.tuples[place];
+        self.tuples.copy_within(place + 1..self.count, place);
+        self.count -= 1;
+        self.tuples[self.count] = Tuple::BLANK;
+        taken
+    }
+}
+
+#[cfg(test)]
+mod tests {
+    use super::*;
+    use crate::fields::{Field, Kind};
+    use Refusal::*;
+
+    fn config(n: u64, t: u64, policy: u64) -> Config {
+        Config { n, t, policy }
+    }
+
+    fn bare() -> Board {
+        Board::fresh(config(4, 1, 0)).unwrap()
+    }
+
+    fn number(value: u64) -> Tuple {
+        Tuple::of(&[Field::given(Kind::Count, value)])
+    }
+
+    const ANY: Field = Field::any(Kind::Count);
+
+    /// Makes a call; a refused one must leave the board as it was.
+    fn obey(board: &mut Board, call: Call) -> Result<Answer, Refusal> {
+        let before = board.clone();
+        let answer = board.call(&call);
+        if answer.is_err() {
+            assert_eq!(*board, before);
+        }
+        answer
+    }
+
+    #[test]
+    fn set_ups() {
+        for (n, t) in [(4, 1), (1, 0), (15, 4), (15, 0), (7, 2), (6, 1)] {
+            for policy in 0..=2 {
+                assert!(Board::fresh(config(n, t, policy)).is_ok());
+            }
+            assert_eq!(Board::fresh(config(n, t, 3)), Err(Unsound));
+        }
+        // 3t + 1 wraps to small numbers for the last few.
+        let third = u64::MAX / 3;
+        let wrapping = [third, third + 1, u64::MAX, 1 << 63];
+        for (n, t) in [(0, 0), (16, 0), (16, 5), (3, 1), (15, 5), (u64::MAX, 0)] {
+            assert_eq!(config(n, t, 0).check(), Err(Unsound));
+        }
+        for t in wrapping {
+            assert_eq!(config(15, t, 0).check(), Err(Unsound));
+        }
+        assert_eq!(config(4, 0, u64::MAX).check(), Err(Unsound));
+    }
+
+    #[test]
+    fn oldest_first_and_order_kept() {
+        let mut board = bare();
+        let pair = |first, second| Tuple::of(&[first, second].map(|v| Field::given(Kind::Count, v)));
+        for tuple in [pair(1, 1), pair(2, 1), pair(1, 2), pair(1, 1)] {
+            assert_eq!(obey(&mut board, Call::out(1, tuple)), Ok(Answer::DONE));
+        }
+        let ones = Tuple::of(&[Field::given(Kind::Count, 1), ANY]);
+        assert_eq!(obey(&mut board, Call::rdp(2, ones)), Ok(Answer::found(pair(1, 1))));
+        assert_eq!(board.count, 4);
+        assert_eq!(obey(&mut board, Call::inp(2, ones)), Ok(Answer::found(pair(1, 1))));
+        assert_eq!(board.held(), [pair(2, 1), pair(1, 2), pair(1, 1)]);
+        assert_eq!(board.check(), Ok(()));
+        assert_eq!(obey(&mut board, Call::inp(2, ones)), Ok(Answer::found(pair(1, 2))));
+        assert_eq!(obey(&mut board, Call::cas(3, ones, pair(9, 9))), Ok(Answer::held(pair(1, 1))));
+        assert_eq!(obey(&mut board, Call::inp(2, ones)), Ok(Answer::found(pair(1, 1))));
+        assert_eq!(obey(&mut board, Call::inp(2, ones)), Ok(Answer::NONE));
+        assert_eq!(obey(&mut board, Call::rdp(2, ones)), Ok(Answer::NONE));
+        assert_eq!(obey(&mut board, Call::cas(3, ones, pair(9, 9))), Ok(Answer::INSERTED));
+        assert_eq!(board.held(), [pair(2, 1), pair(9, 9)]);
+    }
+
+    #[test]
+    fn the_129th_has_no_place() {
+        let mut board = bare();
+        for value in 1..=128 {
+            assert_eq!(obey(&mut board, Call::out(1, number(value))), Ok(Answer::DONE));
+        }
+        assert_eq!(obey(&mut board, Call::out(1, number(0))), Err(Full));
+        assert_eq!(obey(&mut board, Call::cas(1, number(0), number(0))), Err(Full));
+        let any = Tuple::of(&[ANY]);
+        assert_eq!(obey(&mut board, Call::cas(1, any, number(0))), Ok(Answer::held(number(1))));
+        assert_eq!(obey(&mut board, Call::rdp(1, number(128))), Ok(Answer::found(number(128))));
+        assert_eq!(obey(&mut board, Call::inp(1, number(77))), Ok(Answer::found(number(77))));
+        assert_eq!(obey(&mut board, Call::cas(1, number(0), number(0))), Ok(Answer::INSERTED));
+        assert_eq!(board.held().last(), Some(&number(0)));
+        assert_eq!(obey(&mut board, Call::out(1, number(0))), Err(Full));
+    }
+
+    #[test]
+    fn refusals_in_order() {
+        let good = Call::out(1, number(1));
+        for policy in 0..=2 {
+            let mut board = Board::fresh(config(4, 1, policy)).unwrap();
+            for process in [0, 5, u32::MAX] {
+                assert_eq!(obey(&mut board, Call { process, ..good }), Err(Seat));
+            }
+            let mut unused = Call { process: 0, ..good };
+            unused.template.count = 1;
+            assert_eq!(obey(&mut board, unused), Err(Shape), "5 before 6");
+            board.config.n = 3;
+            assert_eq!(obey(&mut board, unused), Err(Unsound), "1 before 5");
+        }
+        let mut board = Board::fresh(config(4, 1, 2)).unwrap();
+        assert_eq!(obey(&mut board, good), Err(Denied));
+        let mut board = bare();
+        board.count = 128;
+        board.tuples = [number(1); MOST_TUPLES];
+        board.config.policy = 1;
+        assert_eq!(obey(&mut board, good), Err(Denied), "7 before 8");
+    }
+
+    #[test]
+    fn boards_handed_in() {
+        let good = Call::rdp(1, number(1));
+        let mut board = bare();
+        board.count = 2;
+        board.tuples[0] = Tuple::decision(4_294_967_295, 0, 32_767);
+        board.tuples[1] = number(9);
+        assert_eq!(board.check(), Ok(()));
+        let spoilt: [fn(&mut Board); 9] = [
+            |board| board.count = 1,
+            |board| board.count = 3,
+            |board| board.count = 129,
+            |board| board.count = usize::MAX,
+            |board| board.tuples[1].fields[0] = ANY,
+            |board| board.tuples[1].fields[0].value = 1 << 32,
+            |board| board.tuples[1].fields[5].value = 1,
+            |board| board.tuples[127].fields[5].value = 1,
+            |board| board.config.policy = 3,
+        ];
+        for spoil in spoilt {
+            let mut board = board.clone();
+            spoil(&mut board);
+            assert_eq!(obey(&mut board, good), Err(Unsound));
+        }
+    }
+}

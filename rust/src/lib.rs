@@ -1,0 +1,38 @@
+//! The shared offset board of document 01, read independently and written
+//! plainly: safe Rust, std only. Records and matching lie below the board and
+//! policies, which lie below the seat procedure and the program.
+//!
+//! `sys` and `flat` stand apart: they reach the proved library, for the tests
+//! that compare the two (tests/compare.rs) and for the benchmark (the program
+//! bench).
+
+pub mod refusal;
+
+pub mod numbers;
+
+pub mod fields;
+
+pub mod records;
+
+pub mod board;
+
+pub mod policy;
+
+pub mod seat;
+
+pub mod text;
+
+pub mod script;
+
+pub mod rounds;
+
+pub mod sys;
+
+pub mod flat;
+
+pub use board::{Answer, AnswerKind, Board, Config};
+pub use fields::{Field, Kind, Role, State, Tuple};
+pub use numbers::Offset;
+pub use records::{Call, Code};
+pub use refusal::Refusal;
+pub use seat::{Phase, Seat, Step};

@@ -1,0 +1,182 @@
+//! Numbers in groups of seven bits, and the travelling number of an offset
+//! (01, "Bytes").
+
+use crate::refusal::Refusal;
+
+/// A number takes at most this many bytes.
+pub const LONGEST_NUMBER: usize = 5;
+
+/// The fifth byte of a number may be at most this.
+const LAST_FIFTH: u8 = 0x0F;
+
+/// Reads the number at the front of `bytes`; answers it and how many bytes it took.
+pub fn read_number(bytes: &[u8]) -> Result<(u32, usize), Refusal> {
+    read_group(bytes, 1)
+}
+
+/// The rule as it reads: the low seven bits of the first byte, plus 128 times
+/// the number that follows if the top bit is set. `place` counts from 1.
+fn read_group(bytes: &[u8], place: usize) -> Result<(u32, usize), Refusal> {
+    let (&first, rest) = bytes.split_first().ok_or(Refusal::Ended)?;
+    if place == LONGEST_NUMBER && first > LAST_FIFTH {
+        return Err(Refusal::Value);
+    }
+    let low = u32::from(first & 0x7F);
+    if first & 0x80 != 0 {
+        let (high, taken) = read_group(rest, place + 1)?;
+        Ok((low + 128 * high, taken + 1))
+    } else if first == 0 && place > 1 {
+        Err(Refusal::Value)
+    } else {
+        Ok((low, 1))
+    }
+}
+
+/// Appends the shortest writing of `value`.
+pub fn write_number(value: u32, out: &mut Vec<u8>) {
+    let mut left = value;
+    while left >= 128 {
+        out.push((left & 0x7F) as u8 | 0x80);
+        left >>= 7;
+    }
+    out.push(left as u8);
+}
+
+/// An offset as it is meant; fields keep its travelling number.
+#[derive(Clone, Copy, Debug, PartialEq, Eq, Hash)]
+pub enum Offset {
+    /// The default mark, equal to the mark and to no number.
+    Mark,
+    /// Whole hundredths of a needle space.
+    Number(i64),
+}
+
+impl Offset {
+    /// The mark's travelling number.
+    pub const MARK: u64 = 0;
+    /// The largest magnitude of an offset.
+    pub const LIMIT: i64 = 100_000;
+    /// The largest travelling number of an offset: that of `LIMIT` itself.
+    pub const LAST: u64 = 200_001;
+
+    /// 0 for the mark, 1 + 2z from zero up, -2z below zero. `None` if the
+    /// offset is out of range.
+    pub fn travelling(self) -> Option<u64> {
+        match self {
+            Offset::Mark => Some(Self::MARK),
+            Offset::Number(z) if !(-Self::LIMIT..=Self::LIMIT).contains(&z) => None,
+            Offset::Number(z) if z >= 0 => Some(1 + 2 * z.unsigned_abs()),
+            Offset::Number(z) => Some(2 * z.unsigned_abs()),
+        }
+    }
+
+    /// The offset with this travelling number, if it is in range.
+    pub fn from_travelling(number: u64) -> Option<Offset> {
+        if number > Self::LAST {
+            return None;
+        }
+        let half = i64::try_from(number / 2).ok()?;
+        Some(match number {
+            Self::MARK => Offset::Mark,
+            odd if odd % 2 == 1 => Offset::Number(half),
+            _ => Offset::Number(-half),
+        })
+    }
+}
+
+#[cfg(test)]
+mod tests {
+    use super::*;
+
+    fn written(value: u32) -> Vec<u8> {
+        let mut out = Vec::new();
+        write_number(value, &mut out);
+        out
+    }
+
+    #[test]
+    fn edge_values_of_numbers() {
+        let rows: [(u32, &[u8]); 6] = [
+            (0, &[0x00]),
+            (127, &[0x7F]),
+            (128, &[0x80, 0x01]),
+            (16_384, &[0x80, 0x80, 0x01]),
+            (268_435_456, &[0x80, 0x80, 0x80, 0x80, 0x01]),
+            (u32::MAX, &[0xFF, 0xFF, 0xFF, 0xFF, 0x0F]),
+        ];
+        for (value, bytes) in rows {
+            assert_eq!(read_number(bytes), Ok((value, bytes.len())));
+            assert_eq!(written(value), bytes);
+        }
+    }
+
+    #[test]
+    fn refused_numbers() {
+        let rows: [(&[u8], Refusal); 9] = [
+            (&[], Refusal::Ended),
+            (&[0x80], Refusal::Ended),
+            (&[0x80, 0x80, 0x80, 0x80], Refusal::Ended),
+            (&[0x80, 0x00], Refusal::Value),
+            (&[0xFF, 0xFF, 0xFF, 0xFF, 0x10], Refusal::Value),
+            (&[0xFF, 0xFF, 0xFF, 0xFF, 0x80], Refusal::Value),
+            (&[0xFF, 0xFF, 0xFF, 0xFF, 0xFF, 0x01], Refusal::Value),
+            (&[0xFF, 0xFF, 0xFF, 0xFF, 0x00], Refusal::Value),
+            (&[0x81, 0x80, 0x00, 0x01], Refusal::Value),
+        ];
+        for (bytes, refusal) in rows {
+            assert_eq!(read_number(bytes), Err(refusal), "{bytes:02X?}");
+        }
+    }
+
+    #[test]
+    fn bytes_behind_a_number_do_not_matter() {
+        assert_eq!(read_number(&[0x7F, 0xFF]), Ok((127, 1)));
+        assert_eq!(read_number(&[0x80, 0x01, 0x00]), Ok((128, 2)));
+    }
+
+    #[test]
+    fn every_two_byte_string_reads_once() {
+        // What reads is the only writing of its number.
+        for first in 0..=255u8 {
+            for second in 0..=255u8 {
+                let bytes = [first, second];
+                if let Ok((value, taken)) = read_number(&bytes) {
+                    assert_eq!(written(value), &bytes[..taken]);
+                }
+            }
+        }
+    }
+
+    #[test]
+    fn edge_values_of_offsets() {
+        let rows = [
+            (Offset::Mark, 0),
+            (Offset::Number(0), 1),
+            (Offset::Number(-1), 2),
+            (Offset::Number(1), 3),
+            (Offset::Number(40), 0x51),
+            (Offset::Number(-40), 0x50),
+            (Offset::Number(-100_000), 200_000),
+            (Offset::Number(100_000), 200_001),
+        ];
+        for (offset, number) in rows {
+            assert_eq!(offset.travelling(), Some(number));
+            assert_eq!(Offset::from_travelling(number), Some(offset));
+        }
+        for z in [-100_001, 100_001, i64::MIN, i64::MAX] {
+            assert_eq!(Offset::Number(z).travelling(), None);
+        }
+        assert_eq!(Offset::from_travelling(200_002), None);
+        assert_eq!(Offset::from_travelling(u64::MAX), None);
+        assert_eq!(read_number(&[0xC1, 0x9A, 0x0C]), Ok((200_001, 3)));
+        assert_eq!(read_number(&[0xC2, 0x9A, 0x0C]), Ok((200_002, 3)));
+    }
+
+    #[test]
+    fn travelling_numbers_and_offsets_are_one_to_one() {
+        for number in 0..=Offset::LAST {
+            let offset = Offset::from_travelling(number).unwrap();
+            assert_eq!(offset.travelling(), Some(number));
+        }
+    }
+}

@@ -1,0 +1,46 @@
+//! The numbered refusals (01, "What is returned, and for what").
+
+use std::fmt;
+
+/// Why something was refused. The discriminants are the paper's numbers.
+#[derive(Clone, Copy, Debug, PartialEq, Eq, Hash, PartialOrd, Ord)]
+#[repr(u8)]
+pub enum Refusal {
+    /// Unsound set-up, wrong policy for a seat, or an ill-formed board or seat state.
+    Unsound = 1,
+    /// The bytes end inside a number or record.
+    Ended = 2,
+    /// Number too long or not shortest, or a value beyond its kind.
+    Value = 3,
+    /// Unknown call code or head.
+    Unknown = 4,
+    /// Field count not 1 to 6, undefined field in an entry, unused part not zero.
+    Shape = 5,
+    /// Seat 0 or above n.
+    Seat = 6,
+    /// The policy does not permit the call.
+    Denied = 7,
+    /// No place for another tuple.
+    Full = 8,
+    /// The script is above 65,536 bytes.
+    TooLong = 9,
+    /// The lent buffer is shorter than what is to be written.
+    Buffer = 10,
+    /// The answer handed to a seat does not fit.
+    Unfit = 11,
+}
+
+impl Refusal {
+    /// The paper's number.
+    pub const fn number(self) -> u8 {
+        self as u8
+    }
+}
+
+impl fmt::Display for Refusal {
+    fn fmt(&self, f: &mut fmt::Formatter<'_>) -> fmt::Result {
+        write!(f, "refused {}", self.number())
+    }
+}
+
+impl std::error::Error for Refusal {}

@@ -1,0 +1,157 @@
+//! A whole script: bytes in, text out (01, "A whole script").
+
+use crate::board::{Answer, Board, Config};
+use crate::records::Reader;
+use crate::refusal::Refusal;
+use crate::text;
+
+/// The longest script.
+pub const LONGEST_SCRIPT: usize = 65_536;
+
+/// The text that the program board prints for this script.
+pub fn run(script: &[u8]) -> String {
+    match lines(script) {
+        Ok(text) => text,
+        Err(refusal) => format!("{refusal}\n"),
+    }
+}
+
+/// Stores the text in a lent buffer and answers its length; refuses 10, with
+/// no byte written, if the buffer is shorter than all that is to be written.
+pub fn run_into(script: &[u8], buffer: &mut [u8]) -> Result<usize, Refusal> {
+    let text = run(script);
+    let lent = buffer.get_mut(..text.len()).ok_or(Refusal::Buffer)?;
+    lent.copy_from_slice(text.as_bytes());
+    Ok(text.len())
+}
+
+/// The lines from a board that stands, or why none does: 9, then reading the
+/// set-up, then 1.
+fn lines(script: &[u8]) -> Result<String, Refusal> {
+    if script.len() > LONGEST_SCRIPT {
+        return Err(Refusal::TooLong);
+    }
+    let mut reader = Reader::new(script);
+    let n = reader.number()?.into();
+    let t = reader.number()?.into();
+    let policy = reader.number()?.into();
+    let mut board = Board::fresh(Config { n, t, policy })?;
+
+    let mut text = format!("board {n} {t} {policy}\n");
+    let mut number = 0u32;
+    while !reader.at_end() {
+        number += 1;
+        let read = reader.record();
+        let answer = match &read {
+            Ok(call) => Answer::from(board.call(call)),
+            Err(refusal) => Answer::from(*refusal),
+        };
+        text.push_str(&format!("{number} {}\n", text::answer(&answer)));
+        if read.is_err() {
+            break;
+        }
+    }
+    text.push_str(&format!("tuples {}\n", board.count));
+    Ok(text)
+}
+
+#[cfg(test)]
+mod tests {
+    use super::*;
+
+    /// Bytes from two-digit hexadecimal groups.
+    fn hex(text: &str) -> Vec<u8> {
+        text.split_whitespace().map(|byte| u8::from_str_radix(byte, 16).unwrap()).collect()
+    }
+
+    const WORKED: &str = "04 01 02
+        01 01 04 04 01 08 00 08 01 0C 50
+        02 01 04 04 01 08 00 08 02 0C 51
+        03 01 04 04 01 08 00 08 03 0C 50
+        04 04 04 04 02 08 00 0E 11 04 04 02 08 00 0C 51 10 02
+        01 04 04 04 02 08 00 0E 11 04 04 02 08 00 0C 50 10 05
+        02 02 04 04 02 08 00 0E 11
+        05 02 01 05";
+
+    const WORKED_TEXT: &str = "board 4 1 2\n1 done\n2 done\n3 done\n4 refused 7\n5 inserted\n\
+        6 found w2 c0 o-40 s5\n7 refused 6\ntuples 4\n";
+
+    #[test]
+    fn the_worked_script() {
+        assert_eq!(run(&hex(WORKED)), WORKED_TEXT);
+    }
+
+    #[test]
+    fn a_lent_buffer() {
+        let mut buffer = [0xA5; 200];
+        let length = run_into(&hex(WORKED), &mut buffer).unwrap();
+        assert_eq!(&buffer[..length], WORKED_TEXT.as_bytes());
+        assert!(buffer[length..].iter().all(|byte| *byte == 0xA5));
+        let mut buffer = vec![0xA5; length - 1];
+        assert_eq!(run_into(&hex(WORKED), &mut buffer), Err(Refusal::Buffer));
+        assert!(buffer.iter().all(|byte| *byte == 0xA5));
+    }
+
+    #[test]
+    fn before_a_board_stands() {
+        let rows = [
+            ("", "refused 2\n"),
+            ("04", "refused 2\n"),
+            ("04 01", "refused 2\n"),
+            ("04 01 82", "refused 2\n"),
+            ("84 00 01 02", "refused 3\n"),
+            ("00 00 80 00", "refused 3\n"),
+            ("03 01 02", "refused 1\n"),
+            ("04 01 03", "refused 1\n"),
+            ("00 00 00", "refused 1\n"),
+            ("10 00 00", "refused 1\n"),
+            ("0F FF FF FF FF 0F 00", "refused 1\n"),
+            ("04 01 00", "board 4 1 0\ntuples 0\n"),
+            ("01 00 02", "board 1 0 2\ntuples 0\n"),
+        ];
+        for (script, text) in rows {
+            assert_eq!(run(&hex(script)), text, "{script}");
+        }
+    }
+
+    #[test]
+    fn an_unreadable_record_ends_the_script() {
+        let rows = [
+            ("01", "1 refused 2\ntuples 0\n"),
+            ("01 01 01 04 80 02 01 01 01 04 01", "1 refused 3\ntuples 0\n"),
+            ("01 05", "1 refused 4\ntuples 0\n"),
+            ("01 01 01 04 01 01 01 07", "1 done\n2 refused 5\ntuples 1\n"),
+            ("05 01 01 04 01 01 01 01 04 FF 01", "1 refused 6\n2 done\ntuples 1\n"),
+        ];
+        for (records, text) in rows {
+            let script = hex(&format!("04 01 00 {records}"));
+            assert_eq!(run(&script), format!("board 4 1 0\n{text}"), "{records}");
+        }
+    }
+
+    #[test]
+    fn how_fields_are_shown() {
+        let out = "01 01 06 04 FF 01 08 FF FF FF FF 0F 0C 00 0C 01 0C C0 9A 0C 10 FF FF 01";
+        let inp = "02 03 06 05 09 0D 0E 0C C0 9A 0C 12";
+        let cas = "02 04 01 05 01 0C C1 9A 0C";
+        let script = hex(&format!("04 01 00 {out} {inp} {inp} {cas} 01 02 01 0E"));
+        let text = "board 4 1 0\n1 done\n2 found w255 c4294967295 o_ o0 o-100000 s32767\n3 none\n\
+            4 inserted\n5 found o100000\ntuples 1\n";
+        assert_eq!(run(&script), text);
+    }
+
+    #[test]
+    fn the_longest_script() {
+        let mut script = hex("04 01 00");
+        while script.len() + 5 <= LONGEST_SCRIPT {
+            script.extend(hex("01 01 01 04 07"));
+        }
+        script.resize(LONGEST_SCRIPT, 1);
+        let text = run(&script);
+        assert!(text.contains("\n128 done\n129 refused 8\n"));
+        assert!(text.ends_with("refused 2\ntuples 128\n"), "{}", &text[text.len() - 40..]);
+        script.push(1);
+        assert_eq!(run(&script), "refused 9\n");
+        assert_eq!(run(&[0xFF; LONGEST_SCRIPT + 1]), "refused 9\n");
+    }
+}

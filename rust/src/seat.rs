@@ -1,0 +1,529 @@
+//! The procedure of a following seat (01, "The procedure of a following seat").
+//!
+//! # When a state is well formed
+//!
+//! Document 01: "if the procedure can reach it by fitting answers". The set-up,
+//! seat and round are those that starting lets through and never change. What
+//! is found grows by one seat at a time, by the seat just asked, with any
+//! offset but the mark: an answer fits whatever the seat itself proposed, its
+//! own seat's reading included. Call what is found *open* if fewer than n - t
+//! seats are found and no offset has t + 1 of them; the seat goes on reading
+//! exactly while that is so.
+//!
+//! - Proposing: always reached, by starting. Nothing is found.
+//! - Reading(q): reached exactly when what is found is open and q is from 1 to
+//!   n and not found. Only then: the seat reads on only if open, and skips the
+//!   found ones. Always then: answer none to all but the found ones, which
+//!   takes one way round at most (each part of an open finding is open, so it
+//!   never stops early); after that, none leads to each seat not found in turn.
+//! - Deciding: reached exactly when what is found is not open but is, for some
+//!   found seat, open without it. Only then: the last seat found is such a one.
+//!   Always then: find the others first, reach Reading of the last one as
+//!   above, and find it.
+//! - Decided(code): reached exactly with an offset in range or the mark, for a
+//!   held tuple may bring any of them. Nothing is kept as found.
+//!
+//! Tests below compare this with an exhaustive search for small n.
+
+use crate::board::{Answer, AnswerKind, Config, MOST_SEATS};
+use crate::fields::Tuple;
+use crate::numbers::Offset;
+use crate::policy::LAST_ROUND;
+use crate::records::Call;
+use crate::refusal::Refusal;
+
+/// The policy that a seat starts under.
+const POLICY: u64 = 2;
+
+/// Where a seat stands in its round.
+#[derive(Clone, Copy, Debug, PartialEq, Eq, Hash)]
+pub enum Phase {
+    /// Its out waits for its answer.
+    Proposing,
+    /// It has asked for the proposal of this seat.
+    Reading(u32),
+    /// Its cas waits for its answer.
+    Deciding,
+    /// It has decided the offset with this travelling number.
+    Decided(u64),
+}
+
+/// A seat state as a plain value that can hold anything.
+#[derive(Clone, Copy, Debug, PartialEq, Eq, Hash)]
+pub struct Seat {
+    pub config: Config,
+    pub process: u32,
+    pub round: u64,
+    pub phase: Phase,
+    /// At place k - 1 the travelling number of the offset that seat k was
+    /// found to have proposed, 0 if it was not found.
+    pub found: [u64; MOST_SEATS],
+}
+
+/// What comes of handing an answer.
+#[derive(Clone, Copy, Debug, PartialEq, Eq, Hash)]
+pub enum Step {
+    /// The next call.
+    Call(Call),
+    /// The decision: its round, and its offset's travelling number.
+    Decision { round: u64, offset: u64 },
+}
+
+/// Nothing found.
+const NOTHING: [u64; MOST_SEATS] = [0; MOST_SEATS];
+
+impl Seat {
+    /// Starts a seat in one round with the offset it chose (its travelling
+    /// number); gives the state and the out. Refuses 1, 6, 3 in this order.
+    pub fn start(config: Config, process: u32, round: u64, offset: u64) -> Result<(Seat, Call), Refusal> {
+        let seat = Seat { config, process, round, phase: Phase::Proposing, found: NOTHING };
+        config.check()?;
+        if config.policy != POLICY {
+            return Err(Refusal::Unsound);
+        }
+        if !config.has_seat(process.into()) {
+            return Err(Refusal::Seat);
+        }
+        if round > LAST_ROUND || offset == Offset::MARK || offset > Offset::LAST {
+            return Err(Refusal::Value);
+        }
+        let out = Call::out(process, Tuple::proposal(round, process.into(), offset));
+        Ok((seat, out))
+    }
+
+    /// Refused 1 unless the procedure can reach this state by fitting answers.
+    pub fn check(&self) -> Result<(), Refusal> {
+        self.is_well_formed().then_some(()).ok_or(Refusal::Unsound)
+    }
+
+    fn is_well_formed(&self) -> bool {
+        let started = self.config.check().is_ok()
+            && self.config.policy == POLICY
+            && self.config.has_seat(self.process.into())
+            && self.round <= LAST_ROUND;
+        started
+            && match self.phase {
+                Phase::Proposing => self.found == NOTHING,
+                Phase::Reading(asked) => {
+                    self.found_in_range()
+                        && self.goes_on()
+                        && self.config.has_seat(asked.into())
+                        && !self.has_found(asked)
+                }
+                Phase::Deciding => {
+                    self.found_in_range()
+                        && !self.goes_on()
+                        && self.seats_found().any(|last| self.with(last, 0).goes_on())
+                }
+                Phase::Decided(offset) => self.found == NOTHING && offset <= Offset::LAST,
+            }
+    }
+
+    /// Hands the state the answer to its last call; gives the state after it,
+    /// and the next call or the decision. Refuses 1, 11 in this order, and
+    /// then the seat is as it was.
+    pub fn hand(&self, answer: &Answer) -> Result<(Seat, Step), Refusal> {
+        self.check()?;
+        self.step(answer).ok_or(Refusal::Unfit)
+    }
+
+    /// The procedure on a well-formed state; `None` if the answer doesn't fit.
+    fn step(&self, answer: &Answer) -> Option<(Seat, Step)> {
+        match self.phase {
+            Phase::Proposing => (*answer == Answer::DONE).then(|| self.ask(1)),
+            Phase::Reading(asked) => {
+                let after = match answer.kind {
+                    AnswerKind::None if answer.tuple == Tuple::BLANK => *self,
+                    AnswerKind::Found => self.with(asked, self.proposal_in(&answer.tuple, asked)?),
+                    _ => return None,
+                };
+                Some(after.after_reading(asked))
+            }
+            Phase::Deciding => match answer.kind {
+                AnswerKind::Inserted if answer.tuple == Tuple::BLANK => Some(self.decide(self.verdict()?.0)),
+                AnswerKind::Held => Some(self.decide(self.decision_in(&answer.tuple)?)),
+                _ => None,
+            },
+            Phase::Decided(offset) => Some(self.decide(offset)),
+        }
+    }
+
+    /// Stops with a cas, or reads the next seat that is not found.
+    fn after_reading(&self, asked: u32) -> (Seat, Step) {
+        match self.verdict() {
+            Some((offset, seats)) => {
+                let entry = Tuple::decision(self.round, offset, seats);
+                let call = Call::cas(self.process, Tuple::decision_template(self.round), entry);
+                (Seat { phase: Phase::Deciding, ..*self }, Step::Call(call))
+            }
+            None => {
+                let n = self.config.n as u32;
+                let next = (asked + 1..=n).chain(1..=n).find(|q| !self.has_found(*q));
+                // Without a verdict fewer than n - t are found, so there is one.
+                self.ask(next.unwrap_or(asked))
+            }
+        }
+    }
+
+    /// The state that has asked for this seat's proposal, and its rdp.
+    fn ask(&self, asked: u32) -> (Seat, Step) {
+        let template = Tuple::proposal_template(self.round, asked.into());
+        let call = Call::rdp(self.process, template);
+        (Seat { phase: Phase::Reading(asked), ..*self }, Step::Call(call))
+    }
+
+    /// The state that has decided, and its decision.
+    fn decide(&self, offset: u64) -> (Seat, Step) {
+        let seat = Seat { phase: Phase::Decided(offset), found: NOTHING, ..*self };
+        (seat, Step::Decision { round: self.round, offset })
+    }
+
+    /// Offset and seats of the cas, if what is found is enough for one.
+    fn verdict(&self) -> Option<(u64, u64)> {
+        let enough = |offset: &u64| u64::from(self.seats_with(*offset).count_ones()) > self.config.t;
+        let offset = self.seats_found().filter_map(|k| self.found_of(k)).find(enough);
+        let all = self.seats_found().fold(0, |set, k| set | bit(k));
+        match offset {
+            Some(offset) => Some((offset, self.seats_with(offset))),
+            None if u64::from(all.count_ones()) >= self.config.n - self.config.t => Some((Offset::MARK, all)),
+            None => None,
+        }
+    }
+
+    /// Whether what is found is not enough for a cas.
+    fn goes_on(&self) -> bool {
+        self.verdict().is_none()
+    }
+
+    /// The offset proposed, if this is a proposal of the asked round and seat
+    /// other than the mark, which a well-formed board can hold.
+    fn proposal_in(&self, tuple: &Tuple, asked: u32) -> Option<u64> {
+        let (round, seat, offset) = tuple.is_entry().then(|| tuple.as_proposal())??;
+        let fits = round == self.round && seat == u64::from(asked) && offset != Offset::MARK;
+        fits.then_some(offset)
+    }
+
+    /// The offset decided, if this is (word 2, the asked round, an offset or
+    /// the mark, seats in 1 to n), which a well-formed board can hold.
+    fn decision_in(&self, tuple: &Tuple) -> Option<u64> {
+        let (round, offset, seats) = tuple.is_entry().then(|| tuple.as_decision())??;
+        (round == self.round && seats >> self.config.n == 0).then_some(offset)
+    }
+
+    /// The state with this seat found to have proposed this offset; 0 for not found.
+    fn with(&self, seat: u32, offset: u64) -> Seat {
+        let mut after = *self;
+        if let Some(place) = (seat as usize).checked_sub(1).and_then(|k| after.found.get_mut(k)) {
+            *place = offset;
+        }
+        after
+    }
+
+    /// The offset that this seat was found to have proposed.
+    fn found_of(&self, seat: u32) -> Option<u64> {
+        let place = (seat as usize).checked_sub(1)?;
+        self.found.get(place).copied().filter(|offset| *offset != 0)
+    }
+
+    fn has_found(&self, seat: u32) -> bool {
+        self.found_of(seat).is_some()
+    }
+
+    /// The seats found, in order.
+    fn seats_found(&self) -> impl Iterator<Item = u32> + '_ {
+        (1..=MOST_SEATS as u32).filter(|k| self.has_found(*k))
+    }
+
+    /// The set of the found seats that proposed this offset.
+    fn seats_with(&self, offset: u64) -> u64 {
+        self.seats_found().filter(|k| self.found_of(*k) == Some(offset)).fold(0, |set, k| set | bit(k))
+    }
+
+    /// Whether only seats from 1 to n are found, with offsets in range.
+    fn found_in_range(&self) -> bool {
+        self.seats_found().all(|k| self.config.has_seat(k.into()))
+            && self.found.iter().all(|offset| *offset <= Offset::LAST)
+    }
+}
+
+/// The set of one seat.
+fn bit(seat: u32) -> u64 {
+    1 << (seat - 1)
+}
+
+#[cfg(test)]
+mod tests {
+    use super::*;
+    use crate::fields::{Field, Kind};
+    use std::collections::HashSet;
+    use Refusal::{Denied, Unfit, Unsound, Value};
+
+    fn config(n: u64, t: u64) -> Config {
+        Config { n, t, policy: 2 }
+    }
+
+    fn proposal(round: u64, seat: u64, offset: u64) -> Answer {
+        Answer::found(Tuple::proposal(round, seat, offset))
+    }
+
+    /// Hands answers one after another; gives the last state and step.
+    fn handed(seat: Seat, answers: &[Answer]) -> (Seat, Step) {
+        let (last, front) = answers.split_last().unwrap();
+        let before = front.iter().fold(seat, |seat, answer| seat.hand(answer).unwrap().0);
+        before.hand(last).unwrap()
+    }
+
+    fn asks(seat: &Seat, asked: u32) -> Step {
+        Step::Call(Call::rdp(seat.process, Tuple::proposal_template(seat.round, asked.into())))
+    }
+
+    fn offers(seat: &Seat, offset: u64, seats: u64) -> Step {
+        let template = Tuple::decision_template(seat.round);
+        Step::Call(Call::cas(seat.process, template, Tuple::decision(seat.round, offset, seats)))
+    }
+
+    #[test]
+    fn starting() {
+        let (seat, out) = Seat::start(config(4, 1), 2, 7, 200_001).unwrap();
+        assert_eq!(out, Call::out(2, Tuple::proposal(7, 2, 200_001)));
+        assert_eq!(seat.phase, Phase::Proposing);
+        assert_eq!(seat.check(), Ok(()));
+        let start = |n, t, policy, process, round, offset| {
+            Seat::start(Config { n, t, policy }, process, round, offset).map(|_| ())
+        };
+        assert_eq!(start(4, 1, 2, 4, 0, 1), Ok(()));
+        assert_eq!(start(3, 1, 2, 0, 8, 0), Err(Unsound));
+        assert_eq!(start(4, 1, 3, 0, 8, 0), Err(Unsound));
+        for policy in 0..=1 {
+            assert_eq!(start(4, 1, policy, 1, 0, 1), Err(Unsound));
+            assert_eq!(start(4, 1, policy, 0, 8, 0), Err(Unsound));
+        }
+        assert_eq!(start(4, 1, 2, 0, 8, 0), Err(Refusal::Seat));
+        assert_eq!(start(4, 1, 2, 5, 8, 0), Err(Refusal::Seat));
+        assert_eq!(start(4, 1, 2, 4, 8, 1), Err(Value));
+        assert_eq!(start(4, 1, 2, 4, u64::MAX, 1), Err(Value));
+        assert_eq!(start(4, 1, 2, 4, 7, 0), Err(Value));
+        assert_eq!(start(4, 1, 2, 4, 7, 200_002), Err(Value));
+    }
+
+    #[test]
+    fn reading_round_and_round() {
+        let (seat, _) = Seat::start(config(4, 1), 2, 5, 3).unwrap();
+        let mut answers = vec![Answer::DONE];
+        let mut expect = |answer: Option<Answer>, next: Step| {
+            answers.extend(answer);
+            assert_eq!(handed(seat, &answers).1, next);
+        };
+        expect(None, asks(&seat, 1));
+        expect(Some(Answer::NONE), asks(&seat, 2));
+        expect(Some(Answer::NONE), asks(&seat, 3));
+        expect(Some(proposal(5, 3, 9)), asks(&seat, 4));
+        expect(Some(Answer::NONE), asks(&seat, 1));
+        expect(Some(proposal(5, 1, 8)), asks(&seat, 2));
+        expect(Some(Answer::NONE), asks(&seat, 4));
+        expect(Some(Answer::NONE), asks(&seat, 2));
+        expect(Some(proposal(5, 2, 1)), offers(&seat, 0, 0b0111));
+        expect(Some(Answer::INSERTED), Step::Decision { round: 5, offset: 0 });
+        // Once decided, any answer brings the decision again.
+        expect(Some(Answer::NONE), Step::Decision { round: 5, offset: 0 });
+        expect(Some(Answer::from(Denied)), Step::Decision { round: 5, offset: 0 });
+        let odd = Tuple { count: 99, ..Tuple::proposal(8, 8, 8) };
+        expect(Some(Answer::held(odd)), Step::Decision { round: 5, offset: 0 });
+    }
+
+    #[test]
+    fn an_offset_of_t_plus_1_comes_before_the_mark() {
+        let (seat, _) = Seat::start(config(4, 1), 1, 0, 0x51).unwrap();
+        let answers = [Answer::DONE, proposal(0, 1, 0x51), proposal(0, 2, 0x50), proposal(0, 3, 0x50)];
+        let (deciding, step) = handed(seat, &answers);
+        assert_eq!(step, offers(&seat, 0x50, 0b0110));
+        assert_eq!(deciding.hand(&Answer::INSERTED).unwrap().1, Step::Decision { round: 0, offset: 0x50 });
+        for offset in [0, 1, 0x51, 200_001] {
+            for seats in [0, 0b1111] {
+                let held = Answer::held(Tuple::decision(0, offset, seats));
+                assert_eq!(deciding.hand(&held).unwrap().1, Step::Decision { round: 0, offset });
+            }
+        }
+    }
+
+    #[test]
+    fn one_seat_alone() {
+        let (seat, _) = Seat::start(config(1, 0), 1, 7, 0x50).unwrap();
+        let waiting = [Answer::DONE, Answer::NONE, Answer::NONE];
+        assert_eq!(handed(seat, &waiting).1, asks(&seat, 1));
+        let (deciding, step) = handed(seat, &[Answer::DONE, proposal(7, 1, 0x52)]);
+        assert_eq!(step, offers(&seat, 0x52, 1));
+        let mark = Answer::held(Tuple::decision(7, 0, 0));
+        assert_eq!(deciding.hand(&mark).unwrap().1, Step::Decision { round: 7, offset: 0 });
+    }
+
+    #[test]
+    fn answers_that_do_not_fit() {
+        let (proposing, _) = Seat::start(config(4, 1), 1, 3, 9).unwrap();
+        let (reading, _) = proposing.hand(&Answer::DONE).unwrap();
+        let (deciding, _) = handed(reading, &[proposal(3, 1, 9), proposal(3, 2, 9)]);
+        assert_eq!(deciding.phase, Phase::Deciding);
+        let good = Tuple::proposal(3, 1, 9);
+        let decision = Tuple::decision(3, 9, 0b1111);
+        let fits = |seat: &Seat, answer: &Answer| match seat.hand(answer) {
+            Ok(_) => true,
+            Err(refusal) => {
+                assert_eq!(refusal, Unfit);
+                false
+            }
+        };
+        let bare = [
+            AnswerKind::Done,
+            AnswerKind::None,
+            AnswerKind::Inserted,
+            AnswerKind::Found,
+            AnswerKind::Held,
+            AnswerKind::Refused(Denied),
+        ];
+        for kind in bare {
+            for tuple in [Tuple::BLANK, good, decision] {
+                let answer = Answer { kind, tuple };
+                let blank = tuple == Tuple::BLANK;
+                assert_eq!(fits(&proposing, &answer), kind == AnswerKind::Done && blank);
+                let read =
+                    (kind == AnswerKind::None && blank) || (kind == AnswerKind::Found && tuple == good);
+                assert_eq!(fits(&reading, &answer), read);
+                let cast = (kind == AnswerKind::Inserted && blank)
+                    || (kind == AnswerKind::Held && tuple == decision);
+                assert_eq!(fits(&deciding, &answer), cast);
+            }
+        }
+        for tuple in [
+            Tuple::proposal(2, 1, 9),
+            Tuple::proposal(3, 2, 9),
+            Tuple::proposal(3, 1, 0),
+            Tuple::proposal(3, 1, 200_002),
+            Tuple::proposal_template(3, 1),
+            Tuple { count: 3, ..good },
+            Tuple { count: 5, ..good },
+        ] {
+            assert!(!fits(&reading, &Answer::found(tuple)));
+        }
+        for tuple in [
+            Tuple::decision(2, 9, 1),
+            Tuple::decision(3, 200_002, 1),
+            Tuple::decision(3, 9, 0b1_0000),
+            Tuple::decision(3, 9, 32_768),
+            Tuple::decision_template(3),
+        ] {
+            assert!(!fits(&deciding, &Answer::held(tuple)));
+        }
+        let mut spoilt = good;
+        spoilt.fields[5].value = 1;
+        assert!(!fits(&reading, &Answer::found(spoilt)));
+        let mut spoilt = decision;
+        spoilt.fields[4] = Field::given(Kind::Word, 0);
+        assert!(!fits(&deciding, &Answer::held(spoilt)));
+    }
+
+    #[test]
+    fn unreachable_states_are_refused() {
+        let (proposing, _) = Seat::start(config(4, 1), 1, 3, 9).unwrap();
+        let (reading, _) = handed(proposing, &[Answer::DONE, proposal(3, 1, 9)]);
+        assert_eq!(reading.phase, Phase::Reading(2));
+        let mut states = Vec::new();
+        for seat in [proposing, reading] {
+            states.push(Seat { process: 0, ..seat });
+            states.push(Seat { process: 5, ..seat });
+            states.push(Seat { round: 8, ..seat });
+            states.push(Seat { config: Config { policy: 0, ..seat.config }, ..seat });
+            states.push(Seat { config: Config { t: u64::MAX, ..seat.config }, ..seat });
+            states.push(Seat { config: Config { n: 3, ..seat.config }, ..seat });
+            states.push(Seat { config: Config { n: 0, ..seat.config }, ..seat });
+        }
+        states.push(Seat { phase: Phase::Proposing, ..reading });
+        states.push(Seat { phase: Phase::Deciding, ..reading });
+        states.push(Seat { phase: Phase::Decided(9), ..reading });
+        states.push(Seat { phase: Phase::Decided(200_002), ..proposing });
+        for asked in [0, 1, 5, u32::MAX] {
+            states.push(Seat { phase: Phase::Reading(asked), ..reading });
+        }
+        states.push(reading.with(5, 9));
+        states.push(reading.with(15, 9));
+        states.push(reading.with(3, 200_002));
+        states.push(reading.with(3, 9));
+        for state in states {
+            assert_eq!(state.hand(&Answer::NONE), Err(Unsound), "{state:?}");
+            assert_eq!(state.hand(&Answer::DONE), Err(Unsound), "{state:?}");
+        }
+    }
+
+    /// All states that fitting answers reach, with these offsets alone.
+    fn reached(config: Config, offsets: &[u64]) -> HashSet<Seat> {
+        let (first, _) = Seat::start(config, 1, 0, offsets[0]).unwrap();
+        let mut reached = HashSet::from([first]);
+        let mut open = vec![first];
+        while let Some(seat) = open.pop() {
+            let answers: Vec<Answer> = match seat.phase {
+                Phase::Proposing => vec![Answer::DONE],
+                Phase::Reading(asked) => {
+                    let found = offsets.iter().map(|w| proposal(0, asked.into(), *w));
+                    found.chain([Answer::NONE]).collect()
+                }
+                Phase::Deciding => {
+                    let held = offsets.iter().chain(&[0]).map(|w| Answer::held(Tuple::decision(0, *w, 0)));
+                    held.chain([Answer::INSERTED]).collect()
+                }
+                Phase::Decided(_) => vec![Answer::NONE],
+            };
+            for answer in answers {
+                // `step`, not `hand`: the search must not lean on `check`.
+                let (next, _) = seat.step(&answer).expect("a fitting answer");
+                if reached.insert(next) {
+                    open.push(next);
+                }
+            }
+        }
+        reached
+    }
+
+    /// All states with these offsets alone, reachable or not.
+    fn all(config: Config, offsets: &[u64]) -> Vec<Seat> {
+        let mut findings = vec![NOTHING];
+        for place in 0..=config.n as usize {
+            // One place behind n as well.
+            let more = findings.clone().into_iter().flat_map(|finding| {
+                offsets.iter().map(move |offset| {
+                    let mut finding = finding;
+                    finding[place] = *offset;
+                    finding
+                })
+            });
+            findings.extend(more.collect::<Vec<_>>());
+        }
+        let mut phases = vec![Phase::Proposing, Phase::Deciding, Phase::Decided(0)];
+        phases.extend((0..=config.n as u32 + 1).map(Phase::Reading));
+        phases.extend(offsets.iter().map(|offset| Phase::Decided(*offset)));
+        let state = |found, phase| Seat { config, process: 1, round: 0, phase, found };
+        findings.iter().flat_map(|found| phases.iter().map(move |phase| state(*found, *phase))).collect()
+    }
+
+    #[test]
+    fn well_formed_is_reachable() {
+        let rows: [(u64, u64, &[u64]); 9] = [
+            (1, 0, &[1, 2, 200_001]),
+            (2, 0, &[1, 2, 3]),
+            (3, 0, &[1, 2, 3]),
+            (4, 0, &[1, 2]),
+            (4, 1, &[1, 2, 3, 4]),
+            (5, 1, &[1, 2, 3, 4]),
+            (6, 1, &[1, 2, 3]),
+            (7, 2, &[1, 2, 3]),
+            (8, 2, &[1, 2]),
+        ];
+        for (n, t, offsets) in rows {
+            let reached = reached(config(n, t), offsets);
+            let all = all(config(n, t), offsets);
+            for seat in &all {
+                assert_eq!(seat.check().is_ok(), reached.contains(seat), "{seat:?}");
+            }
+            let well_formed = all.iter().filter(|seat| seat.check().is_ok()).count();
+            assert_eq!(well_formed, reached.len(), "{n} {t}");
+        }
+    }
+}

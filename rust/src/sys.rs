@@ -1,0 +1,171 @@
+//! The proved library (crates/board_c): its functions and structs, and the only place with `unsafe`.
+//!
+//! Each function takes any value of its parameters' types; its contract in crates/board_c/src/lib.rt says what it answers on each. A
+//! slice crosses as its pointer and its length. Numbers stand for the cases of an enum.
+
+#![allow(unsafe_code)]
+
+/// Most tuples a space holds.
+pub const TUPLES: usize = 128;
+/// Most fields a tuple has.
+pub const FIELDS: usize = 6;
+/// Most processes.
+pub const PROCESSES: usize = 15;
+
+/// A length is below this; a refusal is this and its number.
+const REFUSED: u64 = 1 << 32;
+
+#[repr(C)]
+#[derive(Clone, Copy, Debug, Default, PartialEq, Eq)]
+pub struct Field {
+    pub kind: u8,
+    pub state: u8,
+    pub value: u64,
+}
+
+#[repr(C)]
+#[derive(Clone, Copy, Debug, Default, PartialEq, Eq)]
+pub struct Tuple {
+    pub count: usize,
+    pub fields: [Field; FIELDS],
+}
+
+#[repr(C)]
+#[derive(Clone, Copy, Debug, Default, PartialEq, Eq)]
+pub struct Call {
+    pub process: u32,
+    pub code: u8,
+    pub template: Tuple,
+    pub entry: Tuple,
+}
+
+#[repr(C)]
+#[derive(Clone, Copy, Debug, Default, PartialEq, Eq)]
+pub struct Config {
+    pub n: u64,
+    pub t: u64,
+    pub policy: u64,
+}
+
+#[repr(C)]
+#[derive(Clone, Copy, Debug, PartialEq, Eq)]
+pub struct Space {
+    pub config: Config,
+    pub count: usize,
+    pub tuples: [Tuple; TUPLES],
+}
+
+/// 0 done, 1 none, 2 found, 3 inserted, 4 held, 5 refused; the refusal's number, else 0; the tuple, else blank.
+#[repr(C)]
+#[derive(Clone, Copy, Debug, Default, PartialEq, Eq)]
+pub struct Reply {
+    pub outcome: u8,
+    pub refusal: u8,
+    pub tuple: Tuple,
+}
+
+#[repr(C)]
+#[derive(Clone, Copy, Debug, PartialEq, Eq)]
+pub struct Opened {
+    pub refusal: u8,
+    pub space: Space,
+}
+
+#[repr(C)]
+#[derive(Clone, Copy, Debug, PartialEq, Eq)]
+pub struct Applied {
+    pub reply: Reply,
+    pub space: Space,
+}
+
+#[repr(C)]
+#[derive(Clone, Copy, Debug, Default, PartialEq, Eq)]
+pub struct Read {
+    pub refusal: u8,
+    pub next: usize,
+    pub call: Call,
+}
+
+/// Phase 0 proposing, 1 reading, 2 deciding, 3 decided; the value is the process asked (1) or the decision's code (3), else 0.
+#[repr(C)]
+#[derive(Clone, Copy, Debug, Default, PartialEq, Eq)]
+pub struct Process {
+    pub config: Config,
+    pub process: u32,
+    pub phase: u8,
+    pub round: u64,
+    pub value: u64,
+    pub found: [u64; PROCESSES],
+}
+
+/// 0 calls, 1 decides, 2 refused; the refusal's number, else 0; the decision, else 0.
+#[repr(C)]
+#[derive(Clone, Copy, Debug, Default, PartialEq, Eq)]
+pub struct Step {
+    pub next: u8,
+    pub refusal: u8,
+    pub bottom: u8,
+    pub hundredths: i32,
+    pub process: Process,
+    pub call: Call,
+}
+
+extern "C" {
+    fn board_script(bytes: *const u8, length: usize, buffer: *mut u8, room: usize) -> u64;
+    fn board_fresh(config: Config) -> Opened;
+    fn board_apply(space: Space, call: Call) -> Applied;
+    fn board_start(config: Config, process: u32, round: u64, bottom: u8, hundredths: i32) -> Step;
+    fn board_resume(process: Process, reply: Reply) -> Step;
+    fn board_read(bytes: *const u8, length: usize, at: usize) -> Read;
+    fn board_write(call: Call, buffer: *mut u8, room: usize) -> u64;
+}
+
+/// A length, or a refusal's number.
+fn length(number: u64) -> Result<usize, u8> {
+    match number.checked_sub(REFUSED) {
+        None => Ok(number as usize),
+        Some(refusal) => Err(refusal as u8),
+    }
+}
+
+/// Runs a script and puts its text at the start of the buffer.
+pub fn script(bytes: &[u8], buffer: &mut [u8]) -> Result<usize, u8> {
+    // Safety: both slices live through the call, and no function of the library keeps a pointer.
+    length(unsafe { board_script(bytes.as_ptr(), bytes.len(), buffer.as_mut_ptr(), buffer.len()) })
+}
+
+/// A fresh space.
+pub fn fresh(config: Config) -> Opened {
+    // Safety: only values cross.
+    unsafe { board_fresh(config) }
+}
+
+/// A call on a space: the reply, and the space afterwards.
+pub fn apply(space: Space, call: Call) -> Applied {
+    // Safety: only values cross.
+    unsafe { board_apply(space, call) }
+}
+
+/// Starts a process; its proposal is bottom if the flag is not 0.
+pub fn start(config: Config, process: u32, round: u64, bottom: u8, hundredths: i32) -> Step {
+    // Safety: only values cross.
+    unsafe { board_start(config, process, round, bottom, hundredths) }
+}
+
+/// Hands a process a reply.
+pub fn resume(process: Process, reply: Reply) -> Step {
+    // Safety: only values cross.
+    unsafe { board_resume(process, reply) }
+}
+
+/// The call at a place of bytes, and the place behind it.
+pub fn read(bytes: &[u8], at: usize) -> Read {
+    // Safety: the slice lives through the call.
+    unsafe { board_read(bytes.as_ptr(), bytes.len(), at) }
+}
+
+/// Puts the record of a call at the start of the buffer.
+pub fn write(call: Call, buffer: &mut [u8]) -> Result<usize, u8> {
+    // Safety: the slice lives through the call.
+    length(unsafe { board_write(call, buffer.as_mut_ptr(), buffer.len()) })
+}

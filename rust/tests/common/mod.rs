@@ -1,0 +1,250 @@
+//! What the comparisons share: a generator of numbers, values at and beyond every bound, and the comparisons themselves. Each
+//! compares the whole answer and all that is left behind.
+
+#![allow(dead_code)]
+
+use reference::records::{read_record, record_of, write_record};
+use reference::script::run_into;
+use reference::{flat, sys};
+use reference::{
+    Answer, AnswerKind, Board, Call, Config, Field, Kind, Offset, Phase, Refusal, Seat, Step, Tuple,
+};
+
+/// A small generator of numbers (xorshift). `SEED` in the environment changes all of them.
+pub struct Dice(u64);
+
+impl Dice {
+    pub fn new(seed: u64) -> Dice {
+        let given = std::env::var("SEED").ok().and_then(|text| text.parse().ok()).unwrap_or(0u64);
+        let mut dice = Dice((seed ^ given.wrapping_mul(0x9E37_79B9_7F4A_7C15)) | 1);
+        for _ in 0..8 {
+            dice.below(2);
+        }
+        dice
+    }
+
+    pub fn next(&mut self) -> u64 {
+        self.0 ^= self.0 << 13;
+        self.0 ^= self.0 >> 7;
+        self.0 ^= self.0 << 17;
+        self.0.wrapping_mul(0x2545_F491_4F6C_DD1D)
+    }
+
+    pub fn below(&mut self, limit: u64) -> u64 {
+        (self.next() >> 20) % limit
+    }
+
+    pub fn one_in(&mut self, many: u64) -> bool {
+        self.below(many) == 0
+    }
+
+    pub fn pick<T: Copy>(&mut self, choices: &[T]) -> T {
+        choices[self.below(choices.len() as u64) as usize]
+    }
+}
+
+/// Values at the bounds of 01, and around them.
+pub const VALUES: [u64; 30] = [
+    0,
+    1,
+    2,
+    3,
+    4,
+    5,
+    6,
+    7,
+    8,
+    9,
+    14,
+    15,
+    16,
+    127,
+    128,
+    129,
+    255,
+    256,
+    16_383,
+    16_384,
+    32_767,
+    32_768,
+    199_999,
+    200_000,
+    200_001,
+    200_002,
+    4_294_967_295,
+    4_294_967_296,
+    1 << 63,
+    u64::MAX,
+];
+
+pub const KINDS: [u8; 7] = [0, 1, 2, 3, 4, 5, 255];
+pub const STATES: [u8; 5] = [0, 1, 2, 3, 255];
+pub const COUNTS: [usize; 9] = [0, 1, 2, 3, 4, 5, 6, 7, usize::MAX];
+pub const CODES: [u8; 7] = [0, 1, 2, 3, 4, 5, 255];
+pub const SEATS: [u32; 9] = [0, 1, 2, 4, 5, 15, 16, 127, u32::MAX];
+
+pub fn config(dice: &mut Dice) -> Config {
+    let n = 1 + dice.below(15);
+    Config { n, t: dice.below((n - 1) / 3 + 1), policy: dice.below(3) }
+}
+
+/// A set-up at or beyond its bounds.
+pub fn odd_config(dice: &mut Dice) -> Config {
+    let third = u64::MAX / 3;
+    let n = dice.pick(&[0, 1, 3, 4, 6, 7, 15, 16, u64::MAX]);
+    let t = dice.pick(&[0, 1, 2, 4, 5, third, third + 1, u64::MAX]);
+    Config { n, t, policy: dice.pick(&[0, 1, 2, 3, u64::MAX]) }
+}
+
+pub fn last(kind: Kind) -> u64 {
+    kind.last()
+}
+
+/// A field that an entry, or a template, may have.
+pub fn good_field(dice: &mut Dice, entry: bool) -> Field {
+    let kind = dice.pick(&Kind::ALL);
+    if !entry && dice.one_in(3) {
+        return if dice.one_in(2) { Field::any(kind) } else { Field::open(kind) };
+    }
+    let value = match dice.below(3) {
+        0 => dice.below(4),
+        1 => dice.next() % (kind.last() + 1),
+        _ => dice.pick(&VALUES).min(kind.last()),
+    };
+    Field::given(kind, value)
+}
+
+pub fn good_tuple(dice: &mut Dice, entry: bool) -> Tuple {
+    let fields: Vec<Field> = (0..1 + dice.below(6)).map(|_| good_field(dice, entry)).collect();
+    Tuple::of(&fields)
+}
+
+/// A call without fault.
+pub fn good_call(dice: &mut Dice) -> Call {
+    let seat = dice.pick(&SEATS);
+    let template = good_tuple(dice, false);
+    let entry = good_tuple(dice, true);
+    match dice.below(4) {
+        0 => Call::out(seat, entry),
+        1 => Call::rdp(seat, template),
+        2 => Call::inp(seat, template),
+        _ => Call::cas(seat, template, entry),
+    }
+}
+
+/// How many numbers a call consists of.
+pub const PARTS: u64 = 2 + 2 * 19;
+
+/// Gives one number of a call another value, near its bounds or any.
+pub fn spoil(dice: &mut Dice, call: &mut Call, part: u64) {
+    match part {
+        0 => call.process = dice.pick(&SEATS),
+        1 => call.code = dice.pick(&CODES),
+        _ => {
+            let tuple = if part < 2 + 19 { &mut call.template } else { &mut call.entry };
+            spoil_tuple(dice, tuple, (part - 2) % 19);
+        }
+    }
+}
+
+pub fn spoil_tuple(dice: &mut Dice, tuple: &mut Tuple, part: u64) {
+    if part == 0 {
+        tuple.count = dice.pick(&COUNTS);
+        return;
+    }
+    let field = &mut tuple.fields[(part - 1) as usize / 3];
+    match part % 3 {
+        0 => field.kind = dice.pick(&KINDS),
+        1 => field.state = dice.pick(&STATES),
+        _ => field.value = if dice.one_in(4) { dice.next() } else { dice.pick(&VALUES) },
+    }
+}
+
+// ---- the comparisons
+
+/// A call on a board, by both: the answer and the whole board afterwards must be equal.
+pub fn compare_call(board: &mut Board, call: &Call) -> Answer {
+    let ours = sys::apply(flat::space(board), flat::call(call));
+    let before = board.clone();
+    let answer = Answer::from(board.call(call));
+    if ours.reply != flat::reply(&answer) || ours.space != flat::space(board) {
+        panic!(
+            "{call:?}\non {before:?}\nproved {:?} {:?}\nplain {answer:?} {board:?}",
+            ours.reply, ours.space
+        );
+    }
+    answer
+}
+
+/// Writing a call's record, by both: the length or refusal and the whole buffer.
+pub fn compare_write(call: &Call, buffer: &[u8]) {
+    let (mut ours, mut plain) = (buffer.to_vec(), buffer.to_vec());
+    let proved = sys::write(flat::call(call), &mut ours);
+    let written = write_record(call, &mut plain).map_err(Refusal::number);
+    assert_eq!((proved, ours), (written, plain), "{call:?}");
+}
+
+/// Reading the record at a place, by both.
+pub fn compare_read(bytes: &[u8], at: usize) -> bool {
+    let proved = sys::read(bytes, at);
+    let plain = match read_record(bytes.get(at..).unwrap_or(&[])) {
+        Ok((call, taken)) => sys::Read { refusal: 0, next: at + taken, call: flat::call(&call) },
+        Err(refusal) => sys::Read { refusal: refusal.number(), ..sys::Read::default() },
+    };
+    assert_eq!(proved, plain, "{bytes:02X?} at {at}");
+    plain.refusal == 0
+}
+
+/// A script's text into a buffer, by both.
+pub fn compare_script(script: &[u8], buffer: &[u8]) -> Result<usize, Refusal> {
+    let (mut ours, mut plain) = (buffer.to_vec(), buffer.to_vec());
+    let proved = sys::script(script, &mut ours);
+    let answer = run_into(script, &mut plain);
+    assert_eq!(proved, answer.map_err(Refusal::number), "{script:02X?}");
+    assert!(ours == plain, "{script:02X?}");
+    answer
+}
+
+/// Starting a seat, by both. The offset is the mark, or any number.
+pub fn compare_start(
+    config: Config,
+    process: u32,
+    round: u64,
+    offset: Offset,
+) -> Result<(Seat, Call), Refusal> {
+    let (bottom, hundredths) = match offset {
+        Offset::Mark => (1, 0),
+        Offset::Number(z) => (0, i32::try_from(z).expect("an offset that crosses")),
+    };
+    let ours = sys::start(flat::config(&config), process, round, bottom, hundredths);
+    let plain = Seat::start(config, process, round, offset.travelling().unwrap_or(u64::MAX));
+    assert_eq!(ours, flat::started(&plain), "{config:?} {process} {round} {offset:?}");
+    plain
+}
+
+/// Handing a state an answer, by both: what comes next and the whole state afterwards.
+pub fn compare_hand(seat: &Seat, answer: &Answer) -> Result<(Seat, Step), Refusal> {
+    let before = flat::process(seat);
+    let ours = sys::resume(before, flat::reply(answer));
+    let plain = seat.hand(answer);
+    assert_eq!(ours, flat::handed(&before, &plain), "{seat:?} {answer:?}");
+    plain
+}
+
+/// What a seat waits for that is not of this crate's types: numbers that are no phase's, no outcome's, or too large.
+pub fn compare_numbers(process: sys::Process, reply: sys::Reply, expected: sys::Step) {
+    assert_eq!(sys::resume(process, reply), expected, "{process:?} {reply:?}");
+}
+
+/// The record of a call that is known to be sound.
+pub fn record(call: &Call) -> Vec<u8> {
+    record_of(call).expect("a sound call")
+}
+
+pub fn refused(answer: &Answer) -> bool {
+    matches!(answer.kind, AnswerKind::Refused(_))
+}
+
+pub fn decided(seat: &Seat) -> bool {
+    matches!(seat.phase, Phase::Decided(_))
+}

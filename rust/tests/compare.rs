@@ -1,0 +1,487 @@
+//! The proved library and the plain version on random inputs, each kind with its own seed. Every input's whole answer, and all
+//! that is left behind, must be equal. `SEED=7 rust/check` takes other inputs.
+
+mod common;
+
+use common::*;
+use reference::records::record_of;
+use reference::{flat, sys};
+use reference::{Answer, AnswerKind, Board, Call, Config, Field, Kind, Offset, Phase, Refusal, Seat, Tuple};
+
+fn count(kind: &str, inputs: usize, note: String) {
+    println!("compared {inputs:>7} {kind}: {note}");
+}
+
+#[test]
+fn records_read() {
+    let mut dice = Dice::new(1);
+    let likely =
+        [0, 1, 2, 3, 4, 5, 6, 7, 8, 9, 10, 11, 12, 13, 14, 15, 16, 17, 18, 19, 0x7F, 0x80, 0x81, 0xFF];
+    let (mut inputs, mut sound) = (0, 0);
+    for _ in 0..40_000 {
+        let mut bytes = match dice.below(8) {
+            // Any bytes, and a record with one value out of its range.
+            0 => (0..dice.below(40)).map(|_| dice.pick(&likely)).collect(),
+            1 => {
+                let call = good_call(&mut dice);
+                let mut bytes = record(&call);
+                bytes.extend([0xFF, 0xFF, 0xFF, 0xFF, 0x0F]);
+                bytes
+            }
+            _ => record(&good_call(&mut dice)),
+        };
+        // Damage: bytes changed, taken out, put in, cut off, put behind.
+        for _ in 0..dice.pick(&[0, 0, 1, 1, 1, 2, 3]) {
+            let place = dice.below(bytes.len() as u64 + 1) as usize;
+            let byte = if dice.one_in(3) { dice.next() as u8 } else { dice.pick(&likely) };
+            match dice.below(5) {
+                0 if place < bytes.len() => drop(bytes.remove(place)),
+                1 => bytes.insert(place, byte),
+                2 => bytes.truncate(place),
+                3 => bytes.push(byte),
+                _ if place < bytes.len() => bytes[place] = byte,
+                _ => {}
+            }
+        }
+        sound += usize::from(compare_read(&bytes, 0));
+        // The same record behind other bytes, and a place behind the end.
+        let ahead = dice.below(4) as usize;
+        let mut moved = vec![0x83; ahead];
+        moved.extend(&bytes);
+        compare_read(&moved, ahead);
+        compare_read(&moved, moved.len() + dice.pick(&[0, 1, usize::MAX - moved.len()]));
+        inputs += 3;
+    }
+    // Every cut of the longest record and of each code's.
+    for _ in 0..500 {
+        let bytes = record(&good_call(&mut dice));
+        for cut in 0..=bytes.len() {
+            compare_read(&bytes[..cut], 0);
+            inputs += 1;
+        }
+    }
+    count("records read", inputs, format!("{sound} of the first 40000 are sound"));
+}
+
+#[test]
+fn records_written() {
+    let mut dice = Dice::new(2);
+    let (mut inputs, mut sound) = (0, 0);
+    for _ in 0..40_000 {
+        let mut call = good_call(&mut dice);
+        for _ in 0..dice.pick(&[0, 0, 1, 2]) {
+            let part = dice.below(PARTS);
+            spoil(&mut dice, &mut call, part);
+        }
+        let room = match record_of(&call) {
+            Ok(record) => {
+                sound += 1;
+                (record.len() + dice.pick(&[0, 0, 1, 7])).saturating_sub(dice.pick(&[0, 0, 1, 2, 80]))
+            }
+            Err(_) => dice.below(90) as usize,
+        };
+        let buffer: Vec<u8> = (0..room).map(|_| dice.next() as u8).collect();
+        compare_write(&call, &buffer);
+        inputs += 1;
+    }
+    count("records written", inputs, format!("{sound} of calls without fault"));
+}
+
+/// Boards of both policies and of none, some with the tuples that make a base call permitted.
+fn base_boards() -> Vec<Board> {
+    let mut boards = Vec::new();
+    for policy in 0..=2 {
+        let mut board = Board::fresh(Config { n: 4, t: 1, policy }).unwrap();
+        boards.push(board.clone());
+        for (k, offset) in [(1, 0x50), (2, 0x51), (3, 0x50), (4, 9)] {
+            board.tuples[board.count] = Tuple::proposal(0, k, offset);
+            board.count += 1;
+        }
+        boards.push(board);
+    }
+    boards
+}
+
+fn base_calls() -> Vec<Call> {
+    let weak = |offset: Option<u64>| {
+        let last = offset.map_or(Field::open(Kind::Offset), |offset| Field::given(Kind::Offset, offset));
+        Tuple::of(&[Field::given(Kind::Word, 2), Field::given(Kind::Count, 0), last])
+    };
+    let six = Tuple::of(&[Field::given(Kind::Count, 1); 6]);
+    vec![
+        Call::out(1, Tuple::proposal(1, 1, 0x50)),
+        Call::out(2, six),
+        Call::rdp(4, Tuple::proposal_template(0, 3)),
+        Call::inp(4, Tuple::proposal_template(0, 3)),
+        Call::cas(1, Tuple::decision_template(0), Tuple::decision(0, 0x50, 5)),
+        Call::cas(1, Tuple::decision_template(0), Tuple::decision(0, 0, 11)),
+        Call::cas(1, weak(None), weak(Some(3))),
+        Call::cas(3, six, six),
+    ]
+}
+
+#[test]
+fn calls_with_wrong_fields() {
+    let mut dice = Dice::new(3);
+    let boards = base_boards();
+    let mut inputs = 0;
+    let mut answers = [0usize; 12];
+    let mut try_call = |dice: &mut Dice, call: &Call| {
+        let mut board = dice.pick(&boards.iter().collect::<Vec<_>>()).clone();
+        let answer = compare_call(&mut board, call);
+        if let AnswerKind::Refused(refusal) = answer.kind {
+            answers[refusal.number() as usize] += 1;
+        } else {
+            answers[0] += 1;
+        }
+        inputs += 1;
+    };
+    for call in base_calls() {
+        for first in 0..PARTS {
+            for _ in 0..12 {
+                let mut one = call;
+                spoil(&mut dice, &mut one, first);
+                try_call(&mut dice, &one);
+            }
+            for second in 0..first {
+                for _ in 0..4 {
+                    let mut two = call;
+                    spoil(&mut dice, &mut two, first);
+                    spoil(&mut dice, &mut two, second);
+                    try_call(&mut dice, &two);
+                }
+            }
+        }
+    }
+    count(
+        "calls with fields wrong in turn and in pairs",
+        inputs,
+        format!("answered, refused 1 to 11: {answers:?}"),
+    );
+}
+
+/// A tuple near the policies' shapes, as no run need make it.
+fn odd_tuple(dice: &mut Dice) -> Tuple {
+    let (round, seat) =
+        (dice.pick(&[0, 0, 0, 1, 7, 8]), dice.pick(&[0, 1, 1, 2, 3, 4, 5, 15, 16, 4_294_967_295]));
+    let offset = dice.pick(&[0, 1, 2, 3, 3, 3, 200_001]);
+    match dice.below(8) {
+        0 => good_tuple(dice, true),
+        1 => Tuple::decision(round, offset, dice.pick(&[0, 1, 3, 15, 31, 32_767])),
+        2 => Tuple::of(&[
+            Field::given(Kind::Word, 2),
+            Field::given(Kind::Count, round),
+            Field::given(Kind::Offset, offset),
+        ]),
+        3 => {
+            let mut tuple = Tuple::proposal(round, seat, offset);
+            tuple.fields[dice.below(4) as usize] = good_field(dice, true);
+            tuple
+        }
+        _ => Tuple::proposal(round, seat, offset),
+    }
+}
+
+/// A call that aims at such tuples.
+fn aimed_call(dice: &mut Dice, n: u64) -> Call {
+    let seat = if dice.one_in(10) { dice.pick(&SEATS) } else { 1 + dice.below(n.clamp(1, 15)) as u32 };
+    let (round, offset) = (dice.pick(&[0, 0, 0, 1, 7, 8]), dice.pick(&[0, 0, 1, 2, 3, 3]));
+    let own = if dice.one_in(6) { dice.below(17) } else { seat.into() };
+    let set = if dice.one_in(8) { dice.below(1 << 15) } else { dice.below(1 << n.clamp(1, 15)) };
+    let entry = odd_tuple(dice);
+    let mut template = odd_tuple(dice);
+    for field in &mut template.fields[..template.count] {
+        if dice.one_in(2) {
+            *field = Field { state: 1 + dice.below(2) as u8, value: 0, ..*field };
+        }
+    }
+    match dice.below(8) {
+        0 | 1 => Call::out(seat, Tuple::proposal(round, own, offset)),
+        2 => Call::out(seat, entry),
+        3 => Call::rdp(seat, template),
+        4 => Call::inp(seat, template),
+        5 => Call::cas(seat, template, entry),
+        _ => Call::cas(seat, Tuple::decision_template(round), Tuple::decision(round, offset, set)),
+    }
+}
+
+#[test]
+fn boards_that_no_run_makes() {
+    let mut dice = Dice::new(4);
+    let (mut inputs, mut outcomes) = (0, [0usize; 12]);
+    for _ in 0..30_000 {
+        let config = if dice.one_in(8) {
+            odd_config(&mut dice)
+        } else {
+            Config { policy: dice.pick(&[0, 1, 2, 2, 2]), ..config(&mut dice) }
+        };
+        let mut board = Board { config, count: 0, tuples: [Tuple::BLANK; 128] };
+        let held = match dice.below(6) {
+            0 => 128,
+            1 => 127,
+            2 => dice.below(129) as usize,
+            _ => dice.below(24) as usize,
+        };
+        for place in 0..held {
+            board.tuples[place] = odd_tuple(&mut dice);
+        }
+        board.count = held;
+        // What is not well formed: a count that is not the tuples', a dirty place, a field out of range.
+        if dice.one_in(5) {
+            match dice.below(4) {
+                0 => board.count = dice.pick(&[0, 1, 127, 128, 129, 255, usize::MAX]),
+                1 => {
+                    let (place, part) = (dice.below(128) as usize, dice.below(19));
+                    spoil_tuple(&mut dice, &mut board.tuples[place], part);
+                }
+                2 => {
+                    let (place, part) = (dice.below(held.max(1) as u64) as usize, dice.below(19));
+                    spoil_tuple(&mut dice, &mut board.tuples[place], part);
+                }
+                _ => board.tuples[127].fields[5].value = 1,
+            }
+        }
+        for _ in 0..2 {
+            let call = aimed_call(&mut dice, config.n);
+            let answer = compare_call(&mut board, &call);
+            outcomes[match answer.kind {
+                AnswerKind::Refused(refusal) => refusal.number() as usize,
+                _ => 0,
+            }] += 1;
+            inputs += 1;
+        }
+    }
+    count("calls on boards that no run makes", inputs, format!("answered, refused 1 to 11: {outcomes:?}"));
+}
+
+#[test]
+fn seats_started() {
+    let third = u64::MAX / 3;
+    let mut inputs = 0;
+    let mut started = 0;
+    for n in [0, 1, 3, 4, 15, 16, u64::MAX] {
+        for t in [0, 1, 4, 5, third, third + 1, u64::MAX] {
+            for policy in [0, 1, 2, 3, u64::MAX] {
+                for process in [0, 1, 4, 5, 15, 16, u32::MAX] {
+                    for round in [0, 7, 8, u64::MAX] {
+                        let numbers = [0, 1, -1, 100_000, -100_000, 100_001, -100_001, i32::MAX, i32::MIN];
+                        let offsets = numbers.map(|z| Offset::Number(z.into()));
+                        for offset in offsets.into_iter().chain([Offset::Mark]) {
+                            let config = Config { n, t, policy };
+                            started += usize::from(compare_start(config, process, round, offset).is_ok());
+                            inputs += 1;
+                        }
+                    }
+                }
+            }
+        }
+    }
+    count("seats started at every bound", inputs, format!("{started} start"));
+}
+
+/// A state of any phase: near what the procedure reaches, or any.
+fn state(dice: &mut Dice) -> Seat {
+    let n = dice.pick(&[1, 2, 3, 4, 4, 4, 5, 7, 10, 15]);
+    let t = dice.below((n - 1) / 3 + 1);
+    let mut config = Config { n, t, policy: 2 };
+    if dice.one_in(20) {
+        config = odd_config(dice);
+    }
+    let (mut process, mut round) = (1 + dice.below(n) as u32, dice.below(8));
+    if dice.one_in(20) {
+        process = dice.pick(&SEATS);
+    }
+    if dice.one_in(20) {
+        round = dice.pick(&VALUES);
+    }
+    // Found seats: few offsets, so that they meet; seldom out of range or behind n.
+    let mut found = [0; 15];
+    let share = dice.below(4);
+    for place in &mut found[..n as usize] {
+        if dice.below(4) < share {
+            *place = 1 + dice.below(3);
+        }
+    }
+    if dice.one_in(12) {
+        found[dice.below(15) as usize] = dice.pick(&[0, 1, 200_000, 200_001, 200_002, u64::MAX]);
+    }
+    let phase = match dice.below(10) {
+        0 => Phase::Proposing,
+        1..=4 => Phase::Reading(if dice.one_in(8) { dice.pick(&SEATS) } else { 1 + dice.below(n) as u32 }),
+        5..=8 => Phase::Deciding,
+        _ => Phase::Decided(dice.pick(&[0, 1, 3, 200_000, 200_001, 200_002, u64::MAX])),
+    };
+    if matches!(phase, Phase::Proposing | Phase::Decided(_)) && !dice.one_in(6) {
+        found = [0; 15];
+    }
+    if let (Phase::Reading(asked @ 1..=15), true) = (phase, dice.below(4) > 0) {
+        found[asked as usize - 1] = 0;
+    }
+    Seat { config, process, round, phase, found }
+}
+
+/// An answer that fits the state, nearly fits it, or is any.
+fn answer(dice: &mut Dice, seat: &Seat) -> Answer {
+    let offset = dice.pick(&[0, 1, 2, 3, 3, 200_001]);
+    let asked = if let Phase::Reading(asked) = seat.phase { asked } else { 1 };
+    let set = if dice.one_in(6) { dice.below(1 << 16) } else { dice.below(1 << seat.config.n.clamp(1, 15)) };
+    let mut answer = match (seat.phase, dice.below(4)) {
+        (_, 0) => Answer::bare(dice.pick(&[
+            AnswerKind::Done,
+            AnswerKind::None,
+            AnswerKind::Inserted,
+            AnswerKind::Found,
+            AnswerKind::Held,
+            AnswerKind::Refused(Refusal::Denied),
+            AnswerKind::Refused(Refusal::Unfit),
+        ])),
+        (Phase::Proposing, _) => Answer::DONE,
+        (Phase::Reading(_), 1) => Answer::NONE,
+        (Phase::Reading(_), _) => Answer::found(Tuple::proposal(seat.round, asked.into(), offset)),
+        (Phase::Deciding, 1) => Answer::INSERTED,
+        _ => Answer::held(Tuple::decision(seat.round, offset, set)),
+    };
+    if dice.one_in(4) {
+        let part = dice.below(19);
+        spoil_tuple(dice, &mut answer.tuple, part);
+    }
+    if dice.one_in(10) {
+        answer.tuple = good_tuple(dice, true);
+    }
+    answer
+}
+
+#[test]
+fn states_and_answers() {
+    let mut dice = Dice::new(5);
+    let (mut inputs, mut results) = (0, [0usize; 3]);
+    for _ in 0..60_000 {
+        let mut seat = state(&mut dice);
+        // Onward from it, as long as answers fit.
+        for _ in 0..3 {
+            let answer = answer(&mut dice, &seat);
+            inputs += 1;
+            match compare_hand(&seat, &answer) {
+                Ok((next, _)) => {
+                    results[0] += 1;
+                    seat = next;
+                }
+                Err(refusal) => {
+                    results[if refusal == Refusal::Unsound { 1 } else { 2 }] += 1;
+                    if refusal == Refusal::Unsound {
+                        break;
+                    }
+                }
+            }
+        }
+    }
+    count("states and answers handed", inputs, format!("goes on, refused 1, refused 11: {results:?}"));
+}
+
+/// Numbers that stand for no phase, no outcome or no refusal, and values beside a phase that has none.
+#[test]
+fn numbers_that_are_no_case() {
+    let mut dice = Dice::new(6);
+    let mut inputs = 0;
+    for _ in 0..20_000 {
+        let seat = state(&mut dice);
+        let answer = answer(&mut dice, &seat);
+        let (mut process, mut reply) = (flat::process(&seat), flat::reply(&answer));
+        if dice.one_in(2) {
+            match dice.below(3) {
+                0 => process.phase = dice.pick(&[4, 5, 127, 128, 255]),
+                1 => {
+                    process.phase = dice.pick(&[0, 2]);
+                    process.value = dice.pick(&[1, 2, 15, u64::MAX]);
+                }
+                _ => {
+                    process.phase = 1;
+                    process.value = dice.pick(&[1 << 32, (1 << 32) + 1, u64::MAX]);
+                }
+            }
+            compare_numbers(process, reply, flat::refused(&process, Refusal::Unsound));
+        } else {
+            match dice.below(2) {
+                0 => {
+                    (reply.outcome, reply.refusal) =
+                        (dice.pick(&[5, 6, 7, 128, 255]), dice.pick(&[0, 1, 7, 11, 12, 255]))
+                }
+                _ => {
+                    (reply.outcome, reply.refusal) = (dice.below(6) as u8, dice.pick(&[1, 2, 7, 11, 12, 255]))
+                }
+            }
+            let unknown = Answer { kind: AnswerKind::Refused(Refusal::Unfit), tuple: answer.tuple };
+            compare_numbers(process, reply, flat::handed(&process, &seat.hand(&unknown)));
+        }
+        inputs += 1;
+    }
+    count("states and replies whose numbers are no case's", inputs, "1, or 11, or the decision again".into());
+}
+
+/// The set-ups of scripts, at every bound and in every damaged form.
+#[test]
+fn set_ups_of_scripts() {
+    let mut dice = Dice::new(7);
+    let mut inputs = 0;
+    let numbers: [&[u8]; 16] = [
+        &[0],
+        &[1],
+        &[2],
+        &[3],
+        &[4],
+        &[15],
+        &[16],
+        &[0x7F],
+        &[0x80, 0x01],
+        &[0x84, 0x00],
+        &[0x80],
+        &[0xFF, 0xFF, 0xFF, 0xFF, 0x0F],
+        &[0xFF, 0xFF, 0xFF, 0xFF, 0x10],
+        &[0xFF, 0xFF, 0xFF, 0xFF, 0xFF],
+        &[0x80, 0x80, 0x80, 0x80],
+        &[],
+    ];
+    for n in numbers {
+        for t in numbers {
+            for policy in numbers {
+                let script: Vec<u8> = [n, t, policy].concat();
+                let buffer = vec![0xA5; dice.pick(&[0, 9, 10, 11, 24, 25, 26, 60])];
+                _ = compare_script(&script, &buffer);
+                inputs += 1;
+            }
+        }
+    }
+    for length in [65_535, 65_536, 65_537, 70_000] {
+        let mut script = vec![4, 1, 0];
+        while script.len() + 5 <= length {
+            script.extend([1, 1 + (script.len() % 3) as u8 % 2, 1, 4, 7]);
+        }
+        script.resize(length, 1);
+        _ = compare_script(&script, &vec![0xA5; 1 << 21]);
+        inputs += 1;
+    }
+    count("set-ups of scripts, and scripts of the longest length", inputs, String::new());
+}
+
+/// A blank space stands beside a refused set-up.
+#[test]
+fn fresh_boards() {
+    let mut inputs = 0;
+    let third = u64::MAX / 3;
+    for n in (0..=17).chain([u64::MAX]) {
+        for t in (0..=6).chain([third, third + 1, u64::MAX]) {
+            for policy in [0, 1, 2, 3, u64::MAX] {
+                let config = Config { n, t, policy };
+                let ours = sys::fresh(flat::config(&config));
+                let blank = Board { config: Config::default(), count: 0, tuples: [Tuple::BLANK; 128] };
+                let (refusal, board) = match Board::fresh(config) {
+                    Ok(board) => (0, board),
+                    Err(refusal) => (refusal.number(), blank),
+                };
+                assert_eq!(ours, sys::Opened { refusal, space: flat::space(&board) });
+                inputs += 1;
+            }
+        }
+    }
+    count("fresh boards", inputs, String::new());
+}

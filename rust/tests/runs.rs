@@ -1,0 +1,224 @@
+//! Demand 3 on random runs: following seats, strays that call anything, any
+//! order. And the record reader on random bytes.
+
+use std::collections::HashMap;
+
+use reference::policy::LAST_ROUND;
+use reference::records::{read_record, record_of};
+use reference::{Answer, AnswerKind, Board, Call, Config, Field, Kind, Offset, Phase, Seat, Step, Tuple};
+
+/// A small generator of numbers (xorshift).
+struct Dice(u64);
+
+impl Dice {
+    fn below(&mut self, limit: u64) -> u64 {
+        self.0 ^= self.0 << 13;
+        self.0 ^= self.0 >> 7;
+        self.0 ^= self.0 << 17;
+        (self.0 >> 16) % limit
+    }
+
+    fn one_in(&mut self, many: u64) -> bool {
+        self.below(many) == 0
+    }
+
+    fn offset(&mut self, choices: u64) -> u64 {
+        1 + self.below(choices)
+    }
+}
+
+/// What a stray calls: mostly near the policy's forms, at times spoilt.
+fn stray_call(dice: &mut Dice, process: u32, n: u64, round: u64, choices: u64) -> Call {
+    let offset = if dice.one_in(3) { Offset::MARK } else { dice.offset(choices) };
+    let seat = if dice.one_in(4) { dice.below(n + 2) } else { process.into() };
+    let seats = dice.below(1 << n);
+    let template = Tuple::decision_template(round);
+    let mut call = match dice.below(5) {
+        0 | 1 => Call::out(process, Tuple::proposal(round, seat, offset)),
+        2 => Call::rdp(process, Tuple::proposal_template(round, seat)),
+        3 => {
+            Call::inp(process, if dice.one_in(2) { template } else { Tuple::proposal_template(round, seat) })
+        }
+        _ => Call::cas(process, template, Tuple::decision(round, offset, seats)),
+    };
+    if dice.one_in(5) {
+        let place = dice.below(6) as usize;
+        let field = [Field::any(Kind::Word), Field::open(Kind::Offset), Field::given(Kind::Count, round)];
+        let field = field[dice.below(3) as usize];
+        match dice.below(6) {
+            0 => call.template.fields[place] = field,
+            1 => call.entry.fields[place] = field,
+            2 => call.template.count = dice.below(9) as usize,
+            3 => call.entry.count = dice.below(9) as usize,
+            4 => call.code = dice.below(6) as u8,
+            _ => call.entry.fields[place].value = dice.below(1 << 40),
+        }
+    }
+    call
+}
+
+/// A following seat in its present round.
+struct Follower {
+    seat: Seat,
+    due: Option<Call>,
+    /// Its calls since its own proposal and those of n - t seats are done.
+    since: Option<u64>,
+}
+
+/// The decisions given out, and what was proposed by following seats.
+#[derive(Default)]
+struct Record {
+    decisions: HashMap<u64, u64>,
+    proposed: HashMap<u64, Vec<u64>>,
+    done: HashMap<u64, u64>,
+}
+
+impl Record {
+    fn decide(&mut self, round: u64, offset: u64) {
+        assert_eq!(*self.decisions.entry(round).or_insert(offset), offset, "two decisions in a round");
+    }
+
+    /// Notes an answer; decisions of strays' calls count too.
+    fn note(&mut self, call: &Call, answer: &Answer) {
+        match answer.kind {
+            AnswerKind::Done => {
+                let (round, _, _) = call.entry.as_proposal().unwrap();
+                *self.done.entry(round).or_default() += 1;
+            }
+            AnswerKind::Inserted => {
+                let (round, offset, _) = call.entry.as_decision().unwrap();
+                self.decide(round, offset);
+            }
+            AnswerKind::Held => {
+                let (round, offset, _) = answer.tuple.as_decision().unwrap();
+                self.decide(round, offset);
+            }
+            AnswerKind::None | AnswerKind::Found | AnswerKind::Refused(_) => {}
+        }
+    }
+}
+
+/// Makes one run; gives the number of rounds decided in it.
+fn run(dice: &mut Dice) -> usize {
+    let n = 1 + dice.below(15);
+    let t = dice.below((n - 1) / 3 + 1);
+    let config = Config { n, t, policy: 2 };
+    let choices = 1 + dice.below(4);
+    let mut board = Board::fresh(config).unwrap();
+    let mut record = Record::default();
+    // At most t seats stray; the others follow.
+    let mut strays: Vec<u64> = (0..t).map(|_| 1 + dice.below(n)).collect();
+    strays.dedup();
+    let mut followers: HashMap<u64, (u64, Option<Follower>)> =
+        (1..=n).filter(|k| !strays.contains(k)).map(|k| (k, (0, None))).collect();
+    let (mut done, mut inserted) = (0, 0);
+
+    for _ in 0..n * 200 {
+        let process = dice.below(n + 2);
+        let Some((round, follower)) = followers.get_mut(&process) else {
+            let round = dice.below(10);
+            let call = stray_call(dice, process as u32, n, round, choices);
+            let before = board.clone();
+            let answer = Answer::from(board.call(&call));
+            if matches!(answer.kind, AnswerKind::Refused(_)) {
+                assert_eq!(board, before);
+            }
+            if !(1..=n).contains(&process) {
+                assert!(matches!(answer.kind, AnswerKind::Refused(_)));
+            }
+            record.note(&call, &answer);
+            done += usize::from(answer.kind == AnswerKind::Done);
+            inserted += usize::from(answer.kind == AnswerKind::Inserted);
+            continue;
+        };
+        if *round > LAST_ROUND {
+            continue;
+        }
+        if follower.is_none() {
+            let offset = dice.offset(choices);
+            let (seat, out) = Seat::start(config, process as u32, *round, offset).unwrap();
+            record.proposed.entry(*round).or_default().push(offset);
+            *follower = Some(Follower { seat, due: Some(out), since: None });
+        }
+        let state = follower.as_mut().unwrap();
+        let call = state.due.take().unwrap();
+        if state.since.is_none()
+            && state.seat.phase != Phase::Proposing
+            && record.done.get(round).is_some_and(|done| *done >= n - t)
+        {
+            state.since = Some(0);
+        }
+        state.since = state.since.map(|calls| calls + 1);
+        let answer = Answer::from(board.call(&call));
+        record.note(&call, &answer);
+        done += usize::from(answer.kind == AnswerKind::Done);
+        inserted += usize::from(answer.kind == AnswerKind::Inserted);
+        let (seat, step) = state.seat.hand(&answer).expect("the board's answer fits");
+        state.seat = seat;
+        match step {
+            Step::Call(call) => {
+                state.due = Some(call);
+                assert!(state.since.unwrap_or(0) <= n, "no decision within n + 1 calls");
+            }
+            Step::Decision { round: decided, offset } => {
+                assert_eq!(decided, *round);
+                assert_eq!(seat.phase, Phase::Decided(offset));
+                record.decide(decided, offset);
+                *round += 1;
+                *follower = None;
+            }
+        }
+        assert_eq!(board.count, done + inserted);
+    }
+    assert_eq!(board.check(), Ok(()));
+    let decided = record.decisions.len();
+    for (round, offset) in &record.decisions {
+        let proposed = &record.proposed[round];
+        assert!(*offset == Offset::MARK || proposed.contains(offset));
+        if proposed.iter().all(|other| *other == proposed[0]) {
+            assert_eq!(*offset, proposed[0]);
+        }
+    }
+    decided
+}
+
+#[test]
+fn runs_with_strays() {
+    let mut dice = Dice(0x9E37_79B9_7F4A_7C15);
+    let decided: usize = (0..150).map(|_| run(&mut dice)).sum();
+    assert!(decided > 300, "{decided}");
+}
+
+#[test]
+fn a_record_that_reads_is_the_only_one() {
+    let mut dice = Dice(0x0123_4567_89AB_CDEF);
+    let likely = [0, 1, 2, 3, 4, 5, 6, 8, 9, 10, 12, 13, 14, 16, 17, 18, 0x80, 0x81, 0xFF];
+    let (mut read, mut refused) = (0, 0);
+    for _ in 0..50_000 {
+        // A record, or nothing, with a few bytes changed and a few appended.
+        let round = dice.below(8);
+        let call = stray_call(&mut dice, 300, 4, round, 100);
+        let mut bytes = record_of(&call).unwrap_or_default();
+        for _ in 0..dice.below(3) {
+            let place = dice.below(bytes.len() as u64 + 1) as usize;
+            if let Some(byte) = bytes.get_mut(place) {
+                *byte = match dice.one_in(4) {
+                    true => dice.below(256) as u8,
+                    false => likely[dice.below(likely.len() as u64) as usize],
+                };
+            }
+        }
+        bytes.extend((0..dice.below(4)).map(|_| dice.below(20) as u8));
+        match read_record(&bytes) {
+            Ok((call, taken)) => {
+                assert_eq!(record_of(&call).unwrap(), bytes[..taken]);
+                read += 1;
+            }
+            Err(refusal) => {
+                assert!((2..=5).contains(&refusal.number()));
+                refused += 1;
+            }
+        }
+    }
+    assert!(read > 10_000 && refused > 10_000, "{read} {refused}");
+}

@@ -1,0 +1,360 @@
+//! Whole runs by both, call by call and as scripts: following seats, driven by the procedure, among strays that aim at the decision.
+//! On each run demand 3's four properties are checked: agreement, validity, unanimity, a decision within n + 1 calls.
+
+mod common;
+
+use std::collections::{BTreeMap, HashMap};
+
+use common::*;
+use reference::records::record_of;
+use reference::{Answer, AnswerKind, Board, Call, Config, Field, Kind, Offset, Phase, Seat, Step, Tuple};
+
+/// A following seat: the rounds it will take, and the one it is in.
+struct Follower {
+    rounds: Vec<u64>,
+    now: Option<Now>,
+}
+
+struct Now {
+    seat: Seat,
+    due: Call,
+    /// Its calls since its own proposal and those of n - t seats are done.
+    since: u64,
+}
+
+#[derive(Default)]
+struct Counts {
+    calls: usize,
+    handings: usize,
+    scripts: usize,
+    decided: usize,
+    /// Of these, the rounds decided with the mark, and those that a stray's cas decided.
+    marks: usize,
+    raced: usize,
+    refused: usize,
+}
+
+struct Run {
+    config: Config,
+    board: Board,
+    /// Done proposals: round, then seat, then offset.
+    proposed: BTreeMap<u64, BTreeMap<u64, u64>>,
+    /// The decision of each round.
+    decisions: BTreeMap<u64, u64>,
+    /// The seat whose cas was inserted, in each round.
+    winners: BTreeMap<u64, u64>,
+    script: Vec<u8>,
+    held: usize,
+}
+
+impl Run {
+    fn new(config: Config) -> Run {
+        let board = Board::fresh(config).unwrap();
+        let script = vec![config.n as u8, config.t as u8, config.policy as u8];
+        Run {
+            config,
+            board,
+            proposed: BTreeMap::new(),
+            decisions: BTreeMap::new(),
+            winners: BTreeMap::new(),
+            script,
+            held: 0,
+        }
+    }
+
+    /// Agreement: a second decision in a round is the first.
+    fn decide(&mut self, round: u64, offset: u64) {
+        assert_eq!(*self.decisions.entry(round).or_insert(offset), offset, "two decisions in round {round}");
+    }
+
+    /// Makes a call by both, and notes what it gives out.
+    fn call(&mut self, call: &Call, counts: &mut Counts) -> Answer {
+        let before = self.board.clone();
+        let answer = compare_call(&mut self.board, call);
+        counts.calls += 1;
+        if let Ok(record) = record_of(call) {
+            self.script.extend(record);
+        }
+        match answer.kind {
+            AnswerKind::Done | AnswerKind::Inserted => self.held += 1,
+            AnswerKind::Found if call.code == 3 => self.held -= 1,
+            AnswerKind::Refused(_) => {
+                counts.refused += 1;
+                assert!(self.board == before, "a refused call changed the board");
+            }
+            _ => {}
+        }
+        assert_eq!(self.board.count, self.held, "tuples held are done outs plus inserted less found by inp");
+        if self.config.policy == 2 {
+            self.note(call, &answer);
+        }
+        answer
+    }
+
+    fn note(&mut self, call: &Call, answer: &Answer) {
+        match answer.kind {
+            AnswerKind::Done => {
+                let (round, seat, offset) = call.entry.as_proposal().unwrap();
+                assert_eq!(seat, u64::from(call.process));
+                let again = self.proposed.entry(round).or_default().insert(seat, offset);
+                assert_eq!(again, None, "a second proposal");
+            }
+            AnswerKind::Inserted => {
+                let (round, offset, _) = call.entry.as_decision().unwrap();
+                self.decide(round, offset);
+                self.winners.insert(round, call.process.into());
+            }
+            AnswerKind::Held => {
+                let (round, offset, _) = answer.tuple.as_decision().unwrap();
+                self.decide(round, offset);
+            }
+            AnswerKind::None | AnswerKind::Found | AnswerKind::Refused(_) => {}
+        }
+    }
+
+    /// The whole script by both, into a buffer that may be short.
+    fn script(&self, dice: &mut Dice, counts: &mut Counts) {
+        let mut buffer = vec![0xA5; 16 * self.script.len() + 64];
+        let length = compare_script(&self.script, &buffer).unwrap();
+        for room in [length, length - 1, dice.below(length as u64) as usize, length + 9] {
+            buffer.resize(room, 0x5A);
+            _ = compare_script(&self.script, &buffer);
+        }
+        // Damaged: cut anywhere, or a byte changed.
+        for _ in 0..6 {
+            let mut damaged = self.script.clone();
+            let place = dice.below(damaged.len() as u64) as usize;
+            match dice.below(3) {
+                0 => damaged.truncate(place),
+                1 => damaged[place] = dice.next() as u8,
+                _ => damaged[place] = dice.pick(&[0, 1, 4, 5, 7, 12, 0x80]),
+            }
+            _ = compare_script(&damaged, &vec![0xA5; 16 * damaged.len() + 64]);
+        }
+        counts.scripts += 11;
+    }
+
+    /// Validity and unanimity, for the seats that follow.
+    fn check(&self, follows: impl Fn(u64) -> bool, counts: &mut Counts) {
+        assert_eq!(self.board.check(), Ok(()));
+        for (round, offset) in &self.decisions {
+            let by_following: Vec<u64> = self.proposed[round]
+                .iter()
+                .filter(|(seat, _)| follows(**seat))
+                .map(|(_, offset)| *offset)
+                .collect();
+            assert!(!by_following.is_empty(), "a decision without a following seat's proposal");
+            assert!(*offset == Offset::MARK || by_following.contains(offset), "validity");
+            if by_following.iter().all(|other| *other == by_following[0]) {
+                assert_eq!(*offset, by_following[0], "unanimity");
+            }
+            counts.decided += 1;
+            counts.marks += usize::from(*offset == Offset::MARK);
+            counts.raced += usize::from(!follows(self.winners[round]));
+        }
+    }
+}
+
+/// What a stray calls that aims at a round: it races the decision, forges a set, or equivocates.
+fn stray_call(dice: &mut Dice, run: &Run, process: u32, round: u64, choices: u64) -> Call {
+    let (n, t) = (run.config.n, run.config.t);
+    let none = BTreeMap::new();
+    let proposed = run.proposed.get(&round).unwrap_or(&none);
+    let set = |seats: &mut dyn Iterator<Item = u64>| seats.fold(0, |set, seat| set | 1 << (seat - 1));
+    let offset = 1 + dice.below(choices + 1);
+    let cas = |offset, seats| {
+        Call::cas(process, Tuple::decision_template(round), Tuple::decision(round, offset, seats))
+    };
+    let mut call = match dice.below(12) {
+        // Its proposal, and one in another's name.
+        0 | 1 => Call::out(process, Tuple::proposal(round, process.into(), offset)),
+        2 => Call::out(process, Tuple::proposal(round, 1 + dice.below(n), offset)),
+        // All that have proposed the offset: a race, if they are t + 1.
+        3 | 4 => cas(offset, set(&mut proposed.iter().filter(|(_, w)| **w == offset).map(|(k, _)| *k))),
+        // The same and one seat more, itself or any.
+        5 => {
+            let extra = if dice.one_in(2) { process.into() } else { 1 + dice.below(15) };
+            cas(
+                offset,
+                set(&mut proposed.iter().filter(|(_, w)| **w == offset).map(|(k, _)| *k))
+                    | 1 << (extra.clamp(1, 15) - 1),
+            )
+        }
+        // The mark, with at most t seats of each offset: a race to the mark.
+        6 | 7 => {
+            let mut per = HashMap::new();
+            let few = proposed.iter().filter(|(_, w)| {
+                let seats = per.entry(**w).or_insert(0);
+                *seats += 1;
+                *seats <= t
+            });
+            cas(Offset::MARK, set(&mut few.map(|(k, _)| *k)))
+        }
+        // The mark with all that proposed, or with all.
+        8 => cas(Offset::MARK, set(&mut proposed.keys().copied())),
+        9 => cas(if dice.one_in(2) { Offset::MARK } else { offset }, dice.below(1 << 15)),
+        10 => Call::rdp(process, Tuple::decision_template(round)),
+        _ => Call::inp(
+            process,
+            if dice.one_in(2) { Tuple::decision_template(round) } else { Tuple::proposal_template(round, 1) },
+        ),
+    };
+    if dice.one_in(8) {
+        let part = dice.below(PARTS);
+        spoil(dice, &mut call, part);
+        // A stray can't call under a following seat's number.
+        call.process = process;
+    }
+    call
+}
+
+fn run_of_default(dice: &mut Dice, counts: &mut Counts) {
+    let n = 1 + dice.below(15);
+    let t = if dice.one_in(3) { dice.below((n - 1) / 3 + 1) } else { (n - 1) / 3 };
+    let mut run = Run::new(Config { n, t, policy: 2 });
+    let choices = 1 + dice.below(4);
+    let mut strays: Vec<u64> = (1..=n).collect();
+    for place in (1..strays.len()).rev() {
+        strays.swap(place, dice.below(place as u64 + 1) as usize);
+    }
+    strays.truncate(t as usize);
+    let in_order = !dice.one_in(4);
+    let mut followers: BTreeMap<u64, Follower> = BTreeMap::new();
+    for k in (1..=n).filter(|k| !strays.contains(k)) {
+        // The rounds it takes, last first; now and then it takes fewer, or in another order.
+        let mut rounds: Vec<u64> = (0..=7).rev().collect();
+        if !in_order {
+            for place in (1..rounds.len()).rev() {
+                rounds.swap(place, dice.below(place as u64 + 1) as usize);
+            }
+        }
+        if dice.one_in(8) {
+            rounds = rounds.split_off(dice.below(9) as usize);
+        }
+        followers.insert(k, Follower { rounds, now: None });
+    }
+    for _ in 0..n * 70 {
+        let process = dice.below(n + 2);
+        let Some(follower) = followers.get_mut(&process) else {
+            let busy: Vec<u64> =
+                followers.values().filter_map(|f| f.now.as_ref().map(|now| now.seat.round)).collect();
+            let round = if busy.is_empty() || dice.one_in(6) { dice.below(10) } else { dice.pick(&busy) };
+            let call = stray_call(dice, &run, process as u32, round, choices);
+            let answer = run.call(&call, counts);
+            if !(1..=n).contains(&process) {
+                assert!(refused(&answer));
+            }
+            continue;
+        };
+        let mut now = match follower.now.take() {
+            Some(now) => now,
+            None => {
+                let Some(round) = follower.rounds.pop() else {
+                    continue;
+                };
+                let z = [7, -7, 0, 100_000, -100_000][dice.below(choices) as usize];
+                let (seat, due) =
+                    compare_start(run.config, process as u32, round, Offset::Number(z)).unwrap();
+                Now { seat, due, since: 0 }
+            }
+        };
+        let round = now.seat.round;
+        let enough = run.proposed.get(&round).is_some_and(|done| done.len() as u64 >= n - t);
+        if enough && now.seat.phase != Phase::Proposing {
+            now.since += 1;
+        }
+        let answer = run.call(&now.due, counts);
+        counts.handings += 1;
+        let (seat, step) = compare_hand(&now.seat, &answer).expect("the board's answer fits");
+        match step {
+            Step::Call(due) => {
+                assert!(now.since <= n, "no decision within n + 1 calls");
+                follower.now = Some(Now { seat, due, since: now.since });
+            }
+            Step::Decision { round: decided, offset } => {
+                assert_eq!(decided, round);
+                run.decide(round, offset);
+                // The decision again, whatever is handed in.
+                if dice.one_in(4) {
+                    let stale = Answer { kind: AnswerKind::Held, tuple: good_tuple(dice, true) };
+                    let (same, again) = compare_hand(&seat, &stale).expect("a decided seat repeats");
+                    assert_eq!((same, again), (seat, step));
+                    counts.handings += 1;
+                }
+            }
+        }
+    }
+    run.check(|seat| followers.contains_key(&seat), counts);
+    run.script(dice, counts);
+}
+
+/// Policies 0 and 1: calls that meet each other, on few values.
+fn run_of_others(dice: &mut Dice, counts: &mut Counts) {
+    let mut run = Run::new(Config { policy: dice.below(2), ..config(dice) });
+    let field = |dice: &mut Dice, entry: bool| {
+        let kind = dice.pick(&[Kind::Count, Kind::Count, Kind::Word, Kind::Offset]);
+        match dice.below(if entry { 2 } else { 4 }) {
+            2 => Field::any(kind),
+            3 => Field::open(kind),
+            _ => Field::given(kind, dice.below(3)),
+        }
+    };
+    let tuple = |dice: &mut Dice, entry: bool| {
+        let fields: Vec<Field> = (0..1 + dice.below(2)).map(|_| field(dice, entry)).collect();
+        Tuple::of(&fields)
+    };
+    for _ in 0..220 {
+        let seat = dice.below(run.config.n + 2) as u32;
+        let call = if run.config.policy == 1 && !dice.one_in(8) {
+            let (round, offset) = (dice.below(9), dice.below(4));
+            let head = [Field::given(Kind::Word, 2), Field::given(Kind::Count, round)];
+            let template = Tuple::of(&[head[0], head[1], Field::open(Kind::Offset)]);
+            let mut call =
+                Call::cas(seat, template, Tuple::of(&[head[0], head[1], Field::given(Kind::Offset, offset)]));
+            if dice.one_in(4) {
+                let part = dice.below(PARTS);
+                spoil(dice, &mut call, part);
+            }
+            call
+        } else {
+            match dice.below(8) {
+                0..=3 => Call::out(seat, tuple(dice, true)),
+                4 => Call::rdp(seat, tuple(dice, false)),
+                5 => Call::inp(seat, tuple(dice, false)),
+                _ => Call::cas(seat, tuple(dice, false), tuple(dice, true)),
+            }
+        };
+        let answer = run.call(&call, counts);
+        if run.config.policy == 1 {
+            assert!(!matches!(answer.kind, AnswerKind::Refused(refusal) if refusal.number() == 8));
+        }
+    }
+    run.script(dice, counts);
+}
+
+#[test]
+fn runs_under_policy_2() {
+    let mut dice = Dice::new(11);
+    let mut counts = Counts::default();
+    for _ in 0..160 {
+        run_of_default(&mut dice, &mut counts);
+    }
+    let Counts { calls, handings, scripts, decided, marks, raced, refused } = counts;
+    println!("compared {calls:>7} calls of 160 runs under policy 2: {refused} refused");
+    println!("         {decided:>7} rounds decided: {marks} with the mark, {raced} by a stray's cas");
+    println!("compared {handings:>7} answers handed to following seats");
+    println!("compared {scripts:>7} scripts of these runs, whole, damaged, into short buffers");
+    assert!(decided > 300 && marks > 30 && raced > 30, "{decided} {marks} {raced}");
+}
+
+#[test]
+fn runs_under_policies_0_and_1() {
+    let mut dice = Dice::new(12);
+    let mut counts = Counts::default();
+    for _ in 0..200 {
+        run_of_others(&mut dice, &mut counts);
+    }
+    let Counts { calls, scripts, refused, .. } = counts;
+    println!("compared {calls:>7} calls of 200 runs under policies 0 and 1: {refused} refused");
+    println!("compared {scripts:>7} scripts of these runs");
+}

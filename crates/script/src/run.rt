@@ -30,11 +30,15 @@ pub enum Printed {
     Unprinted(Refusal),
 }
 
-// Runs a script, and puts its text at the start of buffer. The first run only measures the text.
+// Runs a script, and puts its text at the start of buffer. Unless every text has room there, a first run only measures it.
 pub fn print(script: &[u8], buffer: &mut [u8]) -> Printed
     ensures { λ r. ⌜ r ≡ printedOf (now (script .entry)) (length (now (buffer .entry))) ⌝ }
     ensures { λ _. ⌜ now (buffer .exit) ≡ leftOf (now (script .entry)) (now (buffer .entry)) ⌝ }
 {
+    if TEXT_BYTES <= buffer.len() {
+        let length = put_script(buffer, script);
+        return Printed::Length(length);
+    }
     let mut nothing = [0u8; 1];
     let n = put_script(&mut nothing, script);
     if buffer.len() < n {

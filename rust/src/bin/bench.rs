@@ -2,7 +2,8 @@
 //!
 //!     bench [the proved program board] [the Rust program board]
 //!
-//! With the two programs it times them too, from standard input to standard output.
+//! With the two programs it times them too, from standard input to standard output. Last it prints the stack that the proved program
+//! and each function of the library need: the least, in steps of 4 KB, with which it ends.
 
 use std::fs::File;
 use std::hint::black_box;
@@ -169,7 +170,72 @@ fn run_program(program: &str, input: &str) {
     assert!(status.success());
 }
 
+/// The least number of KB, in steps of 4, with which a trial ends well.
+fn least(trial: impl Fn(usize) -> bool) -> usize {
+    let (mut too_few, mut enough) = (0, 4096);
+    assert!(trial(4 * enough), "more than 16 MB");
+    while enough - too_few > 1 {
+        let middle = (too_few + enough) / 2;
+        *(if trial(4 * middle) { &mut enough } else { &mut too_few }) = middle;
+    }
+    4 * enough
+}
+
+/// The functions of the library whose stack is measured; none gives what a thread of Rust needs itself.
+const FUNCTIONS: [&str; 6] = ["none", "read", "start", "resume", "apply", "script"];
+
+/// Calls one function of the library on a thread with so many KB of stack; too few end the program.
+fn on_a_thread(function: String, kilobytes: usize) {
+    let mut board = Board::fresh(FULL).expect("a sound set-up");
+    for k in 0..15 {
+        board.tuples[k as usize] = Tuple::proposal(0, 1 + k, 1 + k % 4);
+        board.count += 1;
+    }
+    let space = Box::new(flat::space(&board));
+    let cas = Call::cas(1, Tuple::decision_template(0), Tuple::decision(0, 0, 0x7FF));
+    let (call, long) = (flat::call(&cas), long_script());
+    let mut text = vec![0; 2_000_000];
+    let work = move || match function.as_str() {
+        "read" => assert_eq!(black_box(sys::read(&long, 3)).refusal, 0),
+        "start" => assert_eq!(black_box(sys::start(space.config, 1, 0, 0, 5)).refusal, 0),
+        "resume" => {
+            let process = sys::start(space.config, 1, 0, 0, 5).process;
+            assert_eq!(black_box(sys::resume(process, sys::Reply::default())).refusal, 0);
+        }
+        "apply" => assert_eq!(black_box(sys::apply(*space, call)).reply.refusal, 0),
+        "script" => assert!(black_box(sys::script(&long, &mut text)).is_ok()),
+        _ => {}
+    };
+    let thread = std::thread::Builder::new().stack_size(kilobytes * 1024).spawn(work).expect("a thread");
+    thread.join().expect("the function answers");
+}
+
+/// Whether a command ends well, with nothing of it shown.
+fn ends_well(command: &mut Command) -> bool {
+    command.stdout(Stdio::null()).stderr(Stdio::null()).status().is_ok_and(|status| status.success())
+}
+
+fn stacks(program: &str, script: &str) {
+    let own = std::env::current_exe().expect("this program");
+    let limited = |kb: usize| {
+        let words = format!("ulimit -s {kb} && exec '{program}' < '{script}'");
+        ends_well(Command::new("sh").args(["-c", &words]))
+    };
+    println!("stack: the program board {} KB", least(limited));
+    let needs =
+        |function: &str| least(|kb| ends_well(Command::new(&own).args(["stack", function, &kb.to_string()])));
+    let thread = needs("none");
+    for function in &FUNCTIONS[1..] {
+        println!("stack: {function} {} KB", needs(function).saturating_sub(thread));
+    }
+}
+
 fn main() {
+    let arguments: Vec<String> = std::env::args().skip(1).collect();
+    if let [word, function, kilobytes] = arguments.as_slice() {
+        assert_eq!(word, "stack");
+        return on_a_thread(function.clone(), kilobytes.parse().expect("a number"));
+    }
     println!("{:<58} {:>11} {:>11} {:>7}", "median time in µs", "proved", "plain Rust", "ratio");
     let bytes = records();
     line("a  reading 1,000 records", medians(301, || read_ours(&bytes), || read_plain(&bytes)));
@@ -188,13 +254,13 @@ fn main() {
     let plain = || _ = black_box(script::run_into(&long, &mut other));
     line("c  a script of 65,536 bytes, rdp and cas on a full board", medians(21, ours, plain));
 
-    let programs: Vec<String> = std::env::args().skip(1).collect();
-    if let [ours, plain] = programs.as_slice() {
+    if let [ours, plain] = arguments.as_slice() {
         let path = std::env::temp_dir().join(format!("board-bench-{}", std::process::id()));
         File::create(&path).and_then(|mut file| file.write_all(&long)).expect("a temporary file");
         let name = path.to_str().expect("a plain path");
         let times = medians(21, || run_program(ours, name), || run_program(plain, name));
         line("d  the same script through the programs", times);
+        stacks(ours, name);
         std::fs::remove_file(&path).expect("the temporary file");
     }
 }

@@ -26,7 +26,7 @@ unfolding backs
 backs-nothing value = refl
 
 -- an offset is backed only by those that proposed it
-backs-same : (value code : ℕ) → (value ≡ bottom → ⊥) → backs value code ≡ true → code ≡ value
+pub backs-same : (value code : ℕ) → (value ≡ bottom → ⊥) → backs value code ≡ true → code ≡ value
 unfolding backs
 backs-same value code some h =
     let parts = and-eq-true-iff (not (eqb code 0)) _ .0 h in eqb-true code value (rw (ne-eqb value bottom some) at (parts .1))

@@ -14,7 +14,7 @@ use borrow.Table.Steps.{cases}
 use Rattle.process.specs.Asks.{casCall}
 use Rattle.process.specs.Tallies.{foundOf, backs, backing, backingSet, backed, settled}
 use Rattle.process.proofs.StateLaws.{Codes}
-use Rattle.process.proofs.TallyLaws.{backed-rule, settled-rule, set-rule}
+use Rattle.process.proofs.TallyLaws.{backs-same, backed-rule, settled-rule, set-rule}
 use Rattle.runs.specs.Theorem.{SoundConfig}
 use Rattle.runs.proofs.Fair.{Fair}
 use Rattle.space.specs.declared.config.Config.{Config}
@@ -40,11 +40,6 @@ Seen tuples round found = (k : ℕ) → 1 ≤ k → (foundOf found k ≡ 0 → �
 backs-found : (value code : ℕ) → backs value code ≡ true → (code ≡ 0 → ⊥)
 unfolding backs
 backs-found value code h none = false≢true (rw (eq-eqb code 0 none) at h)
-
-backs-same : (value code : ℕ) → (value ≡ bottom → ⊥) → backs value code ≡ true → code ≡ value
-unfolding backs
-backs-same value code some h =
-    eqb-true code value (rw (ne-eqb code 0 (backs-found value code h), ne-eqb value bottom some) at h)
 
 found-backs : (value code : ℕ) → (code ≡ 0 → ⊥) → (value ≡ bottom → ⊥) → code ≡ value → backs value code ≡ true
 unfolding backs

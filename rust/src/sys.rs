@@ -86,6 +86,15 @@ pub struct Read {
     pub call: Call,
 }
 
+/// The reply, and what becomes of the space: 0 nothing, 1 the entry goes behind the newest tuple, 2 the tuple at the place is taken off.
+#[repr(C)]
+#[derive(Clone, Copy, Debug, Default, PartialEq, Eq)]
+pub struct Judged {
+    pub reply: Reply,
+    pub change: u8,
+    pub at: usize,
+}
+
 /// Phase 0 proposing, 1 reading, 2 deciding, 3 decided; the value is the process asked (1) or the decision's code (3), else 0.
 #[repr(C)]
 #[derive(Clone, Copy, Debug, Default, PartialEq, Eq)]
@@ -114,6 +123,8 @@ extern "C" {
     fn board_script(bytes: *const u8, length: usize, buffer: *mut u8, room: usize) -> u64;
     fn board_fresh(config: Config) -> Opened;
     fn board_apply(space: Space, call: Call) -> Applied;
+    fn board_judge(space: Space, call: Call) -> Judged;
+    fn board_carry_out(space: Space, entry: Tuple, change: u8, at: usize) -> Space;
     fn board_start(config: Config, process: u32, round: u64, bottom: u8, hundredths: i32) -> Step;
     fn board_resume(process: Process, reply: Reply) -> Step;
     fn board_read(bytes: *const u8, length: usize, at: usize) -> Read;
@@ -141,24 +152,42 @@ pub fn fresh(config: Config) -> Opened {
 }
 
 /// A call on a space: the reply, and the space afterwards.
+#[inline]
 pub fn apply(space: Space, call: Call) -> Applied {
     // Safety: only values cross.
     unsafe { board_apply(space, call) }
 }
 
+/// A call on a space that came from `fresh` and `carry_out` alone: the reply, and what becomes of the space.
+#[inline]
+pub fn judge(space: &Space, call: &Call) -> Judged {
+    // Safety: only values cross.
+    unsafe { board_judge(*space, *call) }
+}
+
+/// The space after a change that a call with this entry was judged to make.
+#[inline]
+pub fn carry_out(space: &Space, entry: &Tuple, change: u8, at: usize) -> Space {
+    // Safety: only values cross.
+    unsafe { board_carry_out(*space, *entry, change, at) }
+}
+
 /// Starts a process; its proposal is bottom if the flag is not 0.
+#[inline]
 pub fn start(config: Config, process: u32, round: u64, bottom: u8, hundredths: i32) -> Step {
     // Safety: only values cross.
     unsafe { board_start(config, process, round, bottom, hundredths) }
 }
 
 /// Hands a process a reply.
+#[inline]
 pub fn resume(process: Process, reply: Reply) -> Step {
     // Safety: only values cross.
     unsafe { board_resume(process, reply) }
 }
 
 /// The call at a place of bytes, and the place behind it.
+#[inline]
 pub fn read(bytes: &[u8], at: usize) -> Read {
     // Safety: the slice lives through the call.
     unsafe { board_read(bytes.as_ptr(), bytes.len(), at) }

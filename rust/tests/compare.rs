@@ -255,6 +255,30 @@ fn boards_that_no_run_makes() {
 }
 
 #[test]
+fn changes_of_any_number() {
+    let mut dice = Dice::new(12);
+    let mut inputs = 0;
+    for _ in 0..2_000 {
+        let mut board = Board::fresh(Config { n: 4, t: 1, policy: 0 }).unwrap();
+        board.count = dice.pick(&[0, 1, 2, 3, 64, 127, 128, 129, 1 << 20, usize::MAX]);
+        for place in 0..board.tuples.len() {
+            if place < board.count || dice.one_in(50) {
+                board.tuples[place] = odd_tuple(&mut dice);
+            }
+        }
+        let entry = odd_tuple(&mut dice);
+        for change in [0, 1, 2, 3, 255] {
+            let last = board.count.wrapping_sub(1);
+            for at in [0, 1, last, board.count, 127, 128, dice.below(128) as usize, usize::MAX] {
+                compare_change(&board, &entry, change, at);
+                inputs += 1;
+            }
+        }
+    }
+    count("changes of any number", inputs, "on boards with any count, each byte left behind".into());
+}
+
+#[test]
 fn seats_started() {
     let third = u64::MAX / 3;
     let mut inputs = 0;

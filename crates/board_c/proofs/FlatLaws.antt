@@ -4,10 +4,11 @@ use mathlib.Core.Bool.{true, false≢true}
 use Prim.Native.Nat.{ℕ, zero, suc}
 use native.Mathlib.Omega.{arith}
 use borrow.Author.Tests.{eqb-true, ne-eqb}
-use Rattle.board_c.specs.Flat.{outcomeNumber, outcomeRefusal, plainOutcome, outcomeOf, phaseNumber, phaseValue, phaseOf, isPhase}
-use Rattle.board_c.specs.Laws.{ReplyRule, ProcessRule, KeptRule}
+use Rattle.board_c.specs.Flat.{outcomeNumber, outcomeRefusal, plainOutcome, outcomeOf, changeOf, phaseNumber, phaseValue, phaseOf, isPhase}
+use Rattle.board_c.specs.Laws.{ReplyRule, ChangeRule, ProcessRule, KeptRule}
 use Rattle.process.specs.declared.process.Phase.{Phase}
 use Rattle.process.specs.declared.process.Phase.the-variants.{Proposing, Reading, Deciding, Decided}
+use Rattle.space.specs.declared.change.Change.the-variants.{Keep, Append, Remove}
 use Rattle.tuple.specs.declared.refusal.Refusal.{Refusal}
 use Rattle.tuple.specs.declared.refusal.Refusal.the-variants.{Unsound, Cut, Beyond, Unknown, Misshapen, Stranger, Denied, Full, LongScript, NoRoom, Unfit}
 use Rattle.tuple.specs.declared.reply.Outcome.{Outcome}
@@ -34,6 +35,12 @@ outcome-back (Refused Unfit) = refl
 
 pub reply-back : ReplyRule
 reply-back reply = rw (outcome-back (reply .outcome))
+
+pub change-back : ChangeRule
+unfolding changeOf
+change-back Keep = refl
+change-back Append = refl
+change-back (Remove i) = refl
 
 phase-back : (phase : Phase) → phaseOf (phaseNumber phase) (phaseValue phase) ≡ phase
 unfolding phaseOf

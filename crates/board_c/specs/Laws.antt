@@ -2,8 +2,9 @@
 use mathlib.Core.Path.{_≡_}
 use mathlib.Core.Bool.{true}
 use Rattle.board_c.specs.declared.state.FlatProcess.{FlatProcess}
-use Rattle.board_c.specs.Flat.{flatReply, replyOf, flatProcess, processOf, isPhase}
+use Rattle.board_c.specs.Flat.{flatReply, replyOf, changeNumber, changePlace, changeOf, flatProcess, processOf, isPhase}
 use Rattle.process.specs.declared.process.Process.{Process}
+use Rattle.space.specs.declared.change.Change.{Change}
 use Rattle.tuple.specs.declared.reply.Reply.{Reply}
 
 abbrev pub ReplyRule : Type 0
@@ -11,6 +12,9 @@ ReplyRule = (reply : Reply) → replyOf (flatReply reply) ≡ reply
 
 abbrev pub ProcessRule : Type 0
 ProcessRule = (process : Process) → processOf (flatProcess process) ≡ process
+
+abbrev pub ChangeRule : Type 0
+ChangeRule = (change : Change) → changeOf (changeNumber change) (changePlace change) ≡ change
 
 -- a state that is handed in stays as it was, in its numbers too
 abbrev pub KeptRule : Type 0

@@ -76,7 +76,7 @@ pub(crate) fn flat_applied(applied: Applied) -> FlatApplied
     }
 }
 
-fn flat_reply(reply: Reply) -> FlatReply
+pub(crate) fn flat_reply(reply: Reply) -> FlatReply
     ensures { λ r. ⌜ r ≡ flatReply reply ⌝ }
 {
     let outcome = reply.outcome;

@@ -31,6 +31,17 @@ unfolding backs
 backs-same value code some h =
     let parts = and-eq-true-iff (not (eqb code 0)) _ .0 h in eqb-true code value (rw (ne-eqb value bottom some) at (parts .1))
 
+-- who backs a value is found
+one-found : (value code : ℕ) → one value code ≤ one bottom code
+unfolding backs
+one-found value code =
+    cases (eqb code 0) (λ e. rw e (omega arith)) (λ e. let found : one bottom code ≡ 1 = rw e in omega (arith, one-most value code))
+
+backing-found : (value : ℕ) (found : List ℕ) → backing value found ≤ backing bottom found
+unfolding backing
+backing-found value [] = omega arith
+backing-found value (code ∷ found) = omega (arith, one-found value code, backing-found value found)
+
 -- ---- the value of its cas
 
 module _ (t : ℕ) (found : List ℕ) where
@@ -70,6 +81,14 @@ backed-rule t found =
           absurd (omega (arith, backed-none t found w (is-backed-rule t found w .1 (some, enough)) found none)))
           (λ e. omega (arith, leb-false (t + 1) (backing w found) e));
     }
+
+-- where at most t are found, no offset has t + 1
+pub backed-few : (t : ℕ) (found : List ℕ) → backing bottom found ≤ t → backed t found ≡ bottom
+backed-few t found few =
+    let value = backed t found in
+    cases (eqb value bottom)
+    (λ e. eqb-true value bottom e)
+    (λ e. absurd (omega (arith, backed-rule t found .some (eqb-false value bottom e), backing-found value found)))
 
 pub settled-rule : SettledRule
 unfolding settled

@@ -10,13 +10,7 @@ use space::PROCESSES;
 fn backs(value: u64, code: u64) -> bool
     ensures { λ r. ⌜ r ≡ backs· value code ⌝ }
 {
-    if code == 0 {
-        return false;
-    }
-    if value == 0 {
-        return true;
-    }
-    code == value
+    if value == 0 { code != 0 } else { code == value }
 }
 
 // How many of the found processes back a value.
@@ -77,15 +71,20 @@ fn is_backed(found: [u64; PROCESSES], t: u64, code: u64) -> bool
     }
 }
 
-// Whether reading stops: some offset has t + 1 found processes, or n - t processes are found.
+// Whether reading stops: some offset has t + 1 found processes, or n - t processes are found. How many are found is tested first:
+// where n - t or at most t are, no offset need be tried.
 pub(crate) fn settled(config: Config, found: [u64; PROCESSES]) -> bool
     requires { ⌜ config .t ≤ config .n ⌝ }
     ensures { λ r. ⌜ r ≡ settled· config found ⌝ }
 {
-    if backed(found, config.t) != 0 {
+    let count = backing(found, 0);
+    if config.n - config.t <= count {
         return true;
     }
-    config.n - config.t <= backing(found, 0)
+    if count <= config.t {
+        return false;
+    }
+    backed(found, config.t) != 0
 }
 
 // The first of the processes 1 to n behind the first k that is not found, or 0.

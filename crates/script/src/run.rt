@@ -18,6 +18,7 @@ use crate::line::put_unread;
 use crate::setup::read_config;
 use record::Cursor;
 use record::Next;
+use space::Change;
 use space::Config;
 use space::Opening;
 use space::Space;
@@ -91,7 +92,8 @@ fn put_opened(out: &mut [u8], script: &[u8], start: Cursor, config: Config) -> u
     }
 }
 
-// The lines of the records from a position on, and the last line.
+// The lines of the records from a position on, and the last line. The space is well formed all along, so that its places are not tested
+// again at each call.
 fn put_records(out: &mut [u8], at: usize, script: &[u8], start: Cursor, fresh: Space) -> usize
     requires { ⌜ Bytes (now script) ⌝ }
     requires { ⌜ wellFormed fresh ≡ true ⌝ }
@@ -111,13 +113,17 @@ fn put_records(out: &mut [u8], at: usize, script: &[u8], start: Cursor, fresh: S
             return put_held(out, end, space);
         };
         let call = read.call;
-        let turn = space::apply(space, call);
-        let reply = turn.reply;
-        let after = turn.space;
+        let judged = space::judge(space, call);
+        let reply = judged.reply;
+        let change = judged.change;
         place = put_line(out, place, number, reply);
         cursor = behind;
-        space = after;
         number += 1;
+        if let Change::Keep = change {
+            continue;
+        }
+        let entry = call.entry;
+        space = space::carry_out(space, entry, change);
     }
     put_held(out, place, space)
 }

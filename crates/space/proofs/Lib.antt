@@ -1,11 +1,13 @@
 pub mod Advances
 pub mod CallLaws
 pub mod CallSteps
+mod ChangeLaws
 pub mod ConfigLaws
 pub mod Decisions
 pub mod DefaultLaws
 pub mod Effects
 pub mod FormedLaws
+pub mod JudgeLaws
 pub mod Keys
 pub mod Lengths
 pub mod MemberLaws
@@ -19,4 +21,3 @@ pub mod SpaceRules
 mod Strikes
 pub mod SumLaws
 pub mod TallyLaws
-mod TurnLaws

@@ -15,23 +15,20 @@ unfolding beyond
 beyond-none zero = refl
 beyond-none (suc n) = beyond-none n
 
-pub every-step : (test : ℕ → Bool) (n k rest : ℕ) → k ≤ n
-    → every test (n + 1 - k) k rest ≡ (eqb (rest % 2) 0 || test k) && every test (n + 1 - (k + 1)) (k + 1) (rest / 2)
+pub every-step : (test : ℕ → Bool) (n k rest : ℕ) → k < n
+    → every test (n - k) (k + 1) rest ≡ (eqb (rest % 2) 0 || test (k + 1)) && every test (n - (k + 1)) (k + 1 + 1) (rest / 2)
 unfolding every
-every-step test n k rest h = let more : n + 1 - k ≡ suc (n + 1 - (k + 1)) = omega arith in ap (λ (m : ℕ). every test m k rest) more
+every-step test n k rest h = let more : n - k ≡ suc (n - (k + 1)) = omega arith in ap (λ (m : ℕ). every test m (k + 1) rest) more
 
-pub every-end : (test : ℕ → Bool) (n k rest : ℕ) → n < k → every test (n + 1 - k) k rest ≡ true
+pub every-end : (test : ℕ → Bool) (n k rest : ℕ) → n ≤ k → every test (n - k) (k + 1) rest ≡ true
 unfolding every
-every-end test n k rest h = let none : n + 1 - k ≡ 0 = omega arith in ap (λ (m : ℕ). every test m k rest) none
+every-end test n k rest h = let none : n - k ≡ 0 = omega arith in ap (λ (m : ℕ). every test m (k + 1) rest) none
 
-pub counted-step : (test : ℕ → Bool) (n k rest : ℕ) → k ≤ n
-    → counted test (n + 1 - k) k rest ≡ cond (eqb (rest % 2) 0) 0 (cond (test k) 1 0) + counted test (n + 1 - (k + 1)) (k + 1) (rest / 2)
-unfolding counted
-counted-step test n k rest h = let more : n + 1 - k ≡ suc (n + 1 - (k + 1)) = omega arith in ap (λ (m : ℕ). counted test m k rest) more
-
-pub counted-end : (test : ℕ → Bool) (n k rest : ℕ) → n < k → counted test (n + 1 - k) k rest ≡ 0
-unfolding counted
-counted-end test n k rest h = let none : n + 1 - k ≡ 0 = omega arith in ap (λ (m : ℕ). counted test m k rest) none
+-- the empty set has no member that fails
+pub every-none : (test : ℕ → Bool) (n k : ℕ) → every test n k 0 ≡ true
+unfolding every
+every-none test zero k = refl
+every-none test (suc n) k = every-none test n (k + 1)
 
 -- a count of n members is at most n
 pub counted-most : (test : ℕ → Bool) (n k set : ℕ) → counted test n k set ≤ n

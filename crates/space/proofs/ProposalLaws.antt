@@ -2,13 +2,16 @@
 use mathlib.Core.Path.{_≡_, refl, ap, _∙_}
 use Prim.Native.Nat.{ℕ, zero, suc, _+_, _/_, _%_}
 use native.Mathlib.Omega.{arith}
-use mathlib.Core.Bool.{Bool, true, false, cond, not, _&&_}
+use mathlib.Core.Bool.{Bool, true, false, cond, not, _&&_, and-true, and-false}
 use mathlib.Core.List.{List}
-use lib.Dec.{eqb}
-use borrow.Author.Tests.{eq-eqb, ne-eqb}
+use lib.Dec.{ltb, eqb}
+use borrow.Author.Tests.{eqb-true, eqb-false, le-ltb, eq-eqb, ne-eqb}
+use borrow.Table.Steps.{cases}
+use Rattle.space.specs.declared.config.Config.{Config}
 use Rattle.space.specs.Members.{every, counted}
 use Rattle.space.specs.Default.{backers}
-use Rattle.space.specs.Proposals.{proposedIn, hasProposed}
+use Rattle.space.specs.Proposals.{bottom, offsetOf, proposedIn, hasProposed}
+use Rattle.space.specs.Shapes.{isProposal, roundOf}
 use Rattle.tuple.specs.declared.field.Tuple.{Tuple}
 
 pub counted-never : (n k set : ℕ) → counted (λ j. false) n k set ≡ 0
@@ -34,3 +37,13 @@ module _ (n : ℕ) (tuples : List Tuple) (round set w : ℕ) where
   pub every-offset : (w ≡ 0 → ⊥) → every (λ k. hasProposed tuples round k w) n 1 set ≡ every (λ k. proposedIn tuples round k w w) n 1 set
   unfolding hasProposed
   every-offset some = ap (λ (t : Bool). every (λ k. not t && proposedIn tuples round k w w) n 1 set) (ne-eqb w 0 some)
+
+-- a tuple crowds if it is a proposal of the round, not of bottom, and more than t members have proposed its offset
+module _ (config : Config) (tuples : List Tuple) (round set : ℕ) (tuple : Tuple) where
+  pub crowds-offers : isProposal tuple && eqb (roundOf tuple) round && ltb (config .t) (backers (config .n) tuples round set (offsetOf tuple))
+      ≡ isProposal tuple && eqb (roundOf tuple) round && not (eqb (offsetOf tuple) bottom)
+      && ltb (config .t) (counted (λ k. proposedIn tuples round k (offsetOf tuple) (offsetOf tuple)) (config .n) 1 set)
+  crowds-offers =
+      cases (eqb (offsetOf tuple) bottom)
+      (λ e. rw (e, backers-bottom (config .n) tuples round set _ (eqb-true (offsetOf tuple) bottom e), le-ltb (config .t) 0 (omega arith), and-false))
+      (λ e. rw (e, and-true, backers-offset (config .n) tuples round set _ (eqb-false (offsetOf tuple) bottom e)))

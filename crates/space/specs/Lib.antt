@@ -1,6 +1,7 @@
 pub mod Calls
 pub mod Configs
 pub mod Default
+pub mod Judging
 pub mod Laws
 pub mod Members
 pub mod Policies

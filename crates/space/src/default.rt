@@ -1,19 +1,19 @@
 // Policy 2, default.
 ghost use mathlib.Core.Path.{_≡_};
-ghost use mathlib.Core.Bool.{_&&_};
+ghost use mathlib.Core.Bool.{cond, not, _&&_};
 ghost use Prim.Native.Nat.{_≤_};
-ghost use lib.Dec.{ltb, eqb};
+ghost use lib.Dec.{eqb};
 ghost use Rattle.space.specs.Configs.{processes};
-ghost use Rattle.space.specs.Default.{isOwnProposal, isFree, isDecisionCall, backers as backers·, crowded as crowded·, bears as bears·, default as default·};
-ghost use Rattle.space.specs.Proposals.{offsetOf};
+ghost use Rattle.space.specs.Default.{isOwnProposal, isFree, isDecisionCall, crowded as crowded·, bears as bears·, default as default·};
+ghost use Rattle.space.specs.Proposals.{bottom, offsetOf};
 ghost use Rattle.space.specs.Shapes.{roundOf, isProposal};
 ghost use Rattle.space.specs.Spaces.{held};
 ghost use Rattle.tuple.specs.Fields.{capacity};
 use crate::config::ROUNDS;
 use crate::member::within;
-use crate::proposal::backers;
 use crate::proposal::every_proposed;
 use crate::proposal::proposed_in;
+use crate::proposal::strike_proposer;
 use crate::shape::all_four;
 use crate::shape::is_decision;
 use crate::shape::is_decision_template;
@@ -32,39 +32,56 @@ const BOTTOM: u64 = 0;
 
 const LEAST_CODE: u64 = 1;
 
-// Whether a tuple is a proposal in the round of an offset that more than t members of the set have proposed.
-fn crowds(space: Space, tuple: Tuple, round: u64, set: u64) -> bool
-    requires { ⌜ space .count ≤ capacity ⌝ }
-    requires { ⌜ space .config .n ≤ processes ⌝ }
-    ensures { λ r. ⌜ r ≡ (isProposal tuple && eqb (roundOf tuple) round && ltb (space .config .t) (backers· (space .config .n) (held space) round set (offsetOf tuple))) ⌝ }
+// Whether a tuple is a proposal of the round, and not of bottom.
+fn offers(tuple: Tuple, round: u64) -> bool
+    ensures { λ r. ⌜ r ≡ (isProposal tuple && eqb (roundOf tuple) round && not (eqb (offsetOf tuple) bottom)) ⌝ }
 {
     let second = tuple.fields[1];
     let fourth = tuple.fields[3];
-    let offset = fourth.value;
     if !is_proposal(tuple) {
         return false;
     }
     if second.value != round {
         return false;
     }
-    if offset == BOTTOM {
-        return false;
-    }
-    space.config.t < backers(space, round, set, offset)
+    fourth.value != BOTTOM
 }
 
-// Whether some proposal of the round does.
+fn differ(a: u64, b: u64) -> u64
+    ensures { λ r. ⌜ r ≡ cond (eqb a b) 0 1 ⌝ }
+{
+    if a == b { 0 } else { 1 }
+}
+
+// Whether some proposal of the round is of an offset that more than t members of the set have proposed. Each member is struck off the set
+// when it is met, so that it is counted once.
 fn crowded(space: Space, round: u64, set: u64) -> bool
     requires { ⌜ space .count ≤ capacity ⌝ }
     requires { ⌜ space .config .n ≤ processes ⌝ }
     ensures { λ r. ⌜ r ≡ crowded· (space .config) (held space) round set (held space) ⌝ }
 {
     let count = space.count;
+    let n = space.config.n;
+    let t = space.config.t;
     let mut i = 0;
     while i < count {
         let tuple = space.tuples[i];
-        if crowds(space, tuple, round, set) {
-            return true;
+        if offers(tuple, round) {
+            let fourth = tuple.fields[3];
+            let offset = fourth.value;
+            let mut rest = set;
+            let mut total: u64 = 0;
+            let mut j = 0;
+            while j < count {
+                let other = space.tuples[j];
+                let left = strike_proposer(other, round, offset, offset, n, rest);
+                total += differ(left, rest);
+                rest = left;
+                j += 1;
+            }
+            if t < total {
+                return true;
+            }
         }
         i += 1;
     }

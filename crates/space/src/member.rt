@@ -1,7 +1,8 @@
 // Sets of processes as numbers: process k is the bit worth 2 to the power k - 1.
 ghost use mathlib.Core.Path.{_≡_};
+ghost use mathlib.Core.Bool.{false};
 ghost use Prim.Native.Nat.{_+_, _≤_};
-ghost use Rattle.space.specs.Members.{within as within·, strike as strike·};
+ghost use Rattle.space.specs.Members.{within as within·, every, strike as strike·};
 
 // Whether all of a set is in 1 to n.
 pub fn within(n: u64, set: u64) -> bool
@@ -17,6 +18,25 @@ pub fn within(n: u64, set: u64) -> bool
         k += 1;
     }
     rest == 0
+}
+
+// Whether none of 1 to n is in a set.
+pub(crate) fn has_none(n: u64, set: u64) -> bool
+    ensures { λ r. ⌜ r ≡ every (λ k. false) n 1 set ⌝ }
+{
+    let mut rest = set;
+    let mut k: u64 = 0;
+    while k < n {
+        if rest == 0 {
+            return true;
+        }
+        if rest % 2 != 0 {
+            return false;
+        }
+        rest /= 2;
+        k += 1;
+    }
+    true
 }
 
 // A set without a process, which is looked for from the lowest bit, process k, on.

@@ -1,13 +1,13 @@
 // What is proposed in a round.
 ghost use mathlib.Core.Path.{_≡_};
 ghost use Prim.Native.Nat.{_≤_};
-ghost use mathlib.Core.Bool.{cond, _||_};
-ghost use lib.Dec.{eqb};
+ghost use mathlib.Core.Bool.{cond};
 ghost use Rattle.space.specs.Configs.{processes};
-ghost use Rattle.space.specs.Members.{every, counted, strike as strike·};
+ghost use Rattle.space.specs.Members.{every, strike as strike·};
 ghost use Rattle.space.specs.Proposals.{processOf, proposes as proposes·, proposedIn};
 ghost use Rattle.space.specs.Spaces.{held};
 ghost use Rattle.tuple.specs.Fields.{capacity};
+use crate::member::has_none;
 use crate::member::strike;
 use crate::shape::all_five;
 use crate::shape::is_proposal;
@@ -47,75 +47,41 @@ pub(crate) fn proposed_in(space: Space, round: u64, process: u64, low: u64, high
     false
 }
 
-// Whether every member of a set has such a proposal.
+// Whether every member of a set has such a proposal. In one pass: each is struck off the set when it is met.
 pub(crate) fn every_proposed(space: Space, round: u64, set: u64, low: u64, high: u64) -> bool
     requires { ⌜ space .count ≤ capacity ⌝ }
     requires { ⌜ space .config .n ≤ processes ⌝ }
     ensures { λ r. ⌜ r ≡ every (λ k. proposedIn (held space) round k low high) (space .config .n) 1 set ⌝ }
 {
-    let n = space.config.n;
-    let mut rest = set;
-    let mut k: u64 = 1;
-    while k <= n {
-        if !idle_or_proposed(space, round, k, rest % 2, low, high) {
-            return false;
-        }
-        rest /= 2;
-        k += 1;
-    }
-    true
-}
-
-// How many members of a set have proposed an offset (not bottom). In one pass: each is struck off the set when it is met, so that it is
-// counted once.
-pub(crate) fn backers(space: Space, round: u64, set: u64, offset: u64) -> u64
-    requires { ⌜ space .count ≤ capacity ⌝ }
-    requires { ⌜ space .config .n ≤ processes ⌝ }
-    ensures { λ r. ⌜ r ≡ counted (λ k. proposedIn (held space) round k offset offset) (space .config .n) 1 set ⌝ }
-{
     let count = space.count;
     let n = space.config.n;
     let mut rest = set;
-    let mut total: u64 = 0;
     let mut i = 0;
     while i < count {
         let tuple = space.tuples[i];
-        let left = strike_proposer(tuple, round, offset, n, rest);
-        total += differ(left, rest);
-        rest = left;
+        rest = strike_proposer(tuple, round, low, high, n, rest);
         i += 1;
     }
-    total
+    has_none(n, rest)
 }
 
-// Whether process k has such a proposal, if the bit says that it is a member.
-fn idle_or_proposed(space: Space, round: u64, k: u64, bit: u64, low: u64, high: u64) -> bool
-    requires { ⌜ space .count ≤ capacity ⌝ }
-    ensures { λ r. ⌜ r ≡ (eqb bit 0 || proposedIn (held space) round k low high) ⌝ }
-{
-    if bit == 0 {
-        true
-    } else {
-        proposed_in(space, round, k, low, high)
-    }
-}
-
-// The set without the process of a tuple that proposes the offset in the round.
-fn strike_proposer(tuple: Tuple, round: u64, offset: u64, n: u64, set: u64) -> u64
+// The set without the process of a tuple that proposes in the round, an offset with a code from low to high.
+pub(crate) fn strike_proposer(
+    tuple: Tuple,
+    round: u64,
+    low: u64,
+    high: u64,
+    n: u64,
+    set: u64,
+) -> u64
     requires { ⌜ n ≤ processes ⌝ }
-    ensures { λ r. ⌜ r ≡ cond (proposes· round (processOf tuple) offset offset tuple) (strike· (processOf tuple) n 1 set) set ⌝ }
+    ensures { λ r. ⌜ r ≡ cond (proposes· round (processOf tuple) low high tuple) (strike· (processOf tuple) n 1 set) set ⌝ }
 {
     let third = tuple.fields[2];
     let process = third.value;
-    if proposes(tuple, round, process, offset, offset) {
+    if proposes(tuple, round, process, low, high) {
         strike(process, n, 1, set)
     } else {
         set
     }
-}
-
-fn differ(a: u64, b: u64) -> u64
-    ensures { λ r. ⌜ r ≡ cond (eqb a b) 0 1 ⌝ }
-{
-    if a == b { 0 } else { 1 }
 }

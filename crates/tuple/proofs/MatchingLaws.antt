@@ -3,14 +3,17 @@ use mathlib.Core.Path.{_≡_, sym, ap, _∙_}
 use Prim.Native.Nat.{ℕ, _+_, _≤_, _<_, min}
 use native.Mathlib.Omega.{arith}
 use mathlib.Core.Bool.{Bool, true, false, cond, _&&_}
-use mathlib.Core.List.{List}
+use mathlib.Core.List.{List, head-eq-of-cons-eq}
 use lib.ListN.{length, take, drop, getD}
+use lib.Seq.{drop-cons, getD-take}
 use borrow.Author.Tests.{eq-eqb, ne-eqb}
 use Rattle.tuple.specs.declared.field.Field.{Field}
 use Rattle.tuple.specs.declared.field.Tuple.{Tuple}
+use Rattle.tuple.specs.declared.matching.Found.{Found}
 use Rattle.tuple.specs.declared.matching.Found.the-variants.{At, Nowhere}
-use Rattle.tuple.specs.Fields.{places, blankField}
-use Rattle.tuple.specs.Matching.{fieldMatches, fieldsMatch, matches, oldestFrom, oldestOf}
+use Rattle.tuple.specs.declared.matching.Matched.{Matched}
+use Rattle.tuple.specs.Fields.{places, blankField, blankTuple}
+use Rattle.tuple.specs.Matching.{fieldMatches, fieldsMatch, matches, oldestFrom, oldestOf, tupleAt, oldestIn}
 use Rattle.tuple.proofs.Lists.{drop-take-step, drop-take-end}
 
 -- ---- field by field
@@ -60,6 +63,19 @@ uncounted template tuple h = rw (ne-eqb (tuple .count) (template .count) h)
 abbrev pub Passed : ℕ → List Tuple → Tuple → ℕ → Type 0
 Passed count tuples template i = oldestFrom i (drop i (take count tuples)) template ≡ oldestOf (take count tuples) template
 
+abbrev matched : Found → Tuple → Matched
+matched found tuple = record { found = found; tuple = tuple }
+
+abbrev matchedIn : List Tuple → Found → Matched
+matchedIn tuples found = matched found (tupleAt tuples found)
+
+-- inside a list it does not matter what it gives outside
+getD-inside : (tuples : List Tuple) (i : ℕ) (one other : Tuple) → i < length tuples → getD tuples i one ≡ getD tuples i other
+getD-inside tuples i one other h = head-eq-of-cons-eq (sym (drop-cons tuples i one h) ∙ drop-cons tuples i other h)
+
+held-tuple : (count : ℕ) (tuples : List Tuple) (i : ℕ) (other : Tuple) → i < count → i < length tuples → getD tuples i other ≡ getD (take count tuples) i blankTuple
+held-tuple count tuples i other below inside = getD-inside tuples i other blankTuple inside ∙ sym (getD-take count tuples i blankTuple below)
+
 module _ (count : ℕ) (tuples : List Tuple) (template : Tuple) (i : ℕ) (other : Tuple) (passed : Passed count tuples template i) where
   oldest-step : i < count → i < length tuples
       → cond (matches template (getD tuples i other)) (At i) (oldestFrom (i + 1) (drop (i + 1) (take count tuples)) template)
@@ -70,9 +86,17 @@ module _ (count : ℕ) (tuples : List Tuple) (template : Tuple) (i : ℕ) (other
   pub found-here : i < count → i < length tuples → matches template (getD tuples i other) ≡ true → At i ≡ oldestOf (take count tuples) template
   found-here below inside e = rw e at (oldest-step below inside)
 
+  pub matched-here : i < count → i < length tuples → matches template (getD tuples i other) ≡ true
+      → matched (At i) (getD tuples i other) ≡ oldestIn (take count tuples) template
+  matched-here below inside e =
+      ap (matched (At i)) (held-tuple count tuples i other below inside) ∙ ap (matchedIn (take count tuples)) (found-here below inside e)
+
   pub passed-more : i < count → i < length tuples → matches template (getD tuples i other) ≡ false → Passed count tuples template (i + 1)
   passed-more below inside e = rw e at (oldest-step below inside)
 
   pub found-nowhere : min count (length tuples) ≤ i → Nowhere ≡ oldestOf (take count tuples) template
   unfolding oldestFrom
   found-nowhere h = sym (ap (λ (l : List Tuple). oldestFrom i l template) (drop-take-end count tuples i h)) ∙ passed
+
+  pub matched-nowhere : min count (length tuples) ≤ i → (blank : Tuple) → blank ≡ blankTuple → matched Nowhere blank ≡ oldestIn (take count tuples) template
+  matched-nowhere h blank is-blank = ap (matched Nowhere) is-blank ∙ ap (matchedIn (take count tuples)) (found-nowhere h)

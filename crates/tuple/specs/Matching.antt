@@ -2,13 +2,15 @@
 use Prim.Native.Nat.{ℕ, _+_}
 use mathlib.Core.Bool.{Bool, true, false, cond, not, _&&_, _||_}
 use mathlib.Core.List.{List, [], _∷_}
-use lib.ListN.{take}
+use lib.ListN.{take, getD}
 use lib.Dec.{eqb}
 use Rattle.tuple.specs.declared.field.Field.{Field}
 use Rattle.tuple.specs.declared.field.Tuple.{Tuple}
 use Rattle.tuple.specs.declared.matching.Found.{Found}
 use Rattle.tuple.specs.declared.matching.Found.the-variants.{At, Nowhere}
+use Rattle.tuple.specs.declared.matching.Matched.{Matched}
 use Rattle.tuple.specs.Faults.{isDefined}
+use Rattle.tuple.specs.Fields.{blankTuple}
 
 -- the same kind, and equal values if the template's field is defined
 unfoldable pub fieldMatches : Field → Field → Bool
@@ -34,3 +36,12 @@ oldestFrom i (tuple ∷ tuples) template = cond (matches template tuple) (At i) 
 -- the oldest of the tuples, oldest first, that matches
 unfoldable pub oldestOf : List Tuple → Tuple → Found
 oldestOf tuples template = oldestFrom 0 tuples template
+
+-- the tuple at a place found, blank where there is none
+abbrev pub tupleAt : List Tuple → Found → Tuple
+tupleAt tuples (At i) = getD tuples i blankTuple
+tupleAt tuples Nowhere = blankTuple
+
+-- where the oldest that matches stands, and that tuple
+abbrev pub oldestIn : List Tuple → Tuple → Matched
+oldestIn tuples template = record { found = oldestOf tuples template; tuple = tupleAt tuples (oldestOf tuples template) }

@@ -34,6 +34,7 @@ pub use field::WILDCARD;
 pub use field::WORD;
 pub use field::largest;
 pub use matching::Found;
+pub use matching::Matched;
 pub use matching::oldest;
 pub use offset::Coded;
 pub use offset::Decoded;

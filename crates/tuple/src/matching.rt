@@ -2,7 +2,7 @@
 ghost use mathlib.Core.Path.{_≡_};
 ghost use Prim.Native.Nat.{min};
 ghost use lib.ListN.{take};
-ghost use Rattle.tuple.specs.Matching.{fieldMatches, matches, oldestOf};
+ghost use Rattle.tuple.specs.Matching.{fieldMatches, matches, oldestIn};
 use crate::field::DEFINED;
 use crate::field::FIELDS;
 use crate::field::Field;
@@ -15,9 +15,15 @@ pub enum Found {
     Nowhere,
 }
 
+// That place and the tuple there, blank if none matches.
+pub struct Matched {
+    pub found: Found,
+    pub tuple: Tuple,
+}
+
 // The oldest of the first `count` tuples that matches the template.
-pub fn oldest(tuples: [Tuple; TUPLES], count: usize, template: Tuple) -> Found
-    ensures { λ r. ⌜ r ≡ oldestOf (take count tuples) template ⌝ }
+pub fn oldest(tuples: [Tuple; TUPLES], count: usize, template: Tuple) -> Matched
+    ensures { λ r. ⌜ r ≡ oldestIn (take count tuples) template ⌝ }
 {
     let held = least(count, TUPLES);
     let wanted = template.count;
@@ -39,9 +45,15 @@ pub fn oldest(tuples: [Tuple; TUPLES], count: usize, template: Tuple) -> Found
             }
             j += 1;
         }
-        return Found::At(at);
+        return Matched {
+            found: Found::At(at),
+            tuple,
+        };
     }
-    Found::Nowhere
+    Matched {
+        found: Found::Nowhere,
+        tuple: Tuple::blank(),
+    }
 }
 
 impl Tuple {

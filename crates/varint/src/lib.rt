@@ -34,10 +34,17 @@ pub enum Written {
     NoRoom,
 }
 
-// The number that stands at a place of s.
+// The number that stands at a place of s. Most are of one byte, which is looked at here so that they take no recursive call.
 pub fn read(s: &[u8], at: usize) -> Number
     ensures { λ r. ⌜ r ≡ numberAt (now (s .entry)) at ⌝ }
 {
+    if s.len() <= at {
+        return Number::Cut;
+    }
+    let byte = wide(s[at]);
+    if byte < 128 {
+        return Number::Value(byte, at + 1);
+    }
     groups_from(s, at, GROUPS - 1)
 }
 

@@ -103,9 +103,11 @@ fn rounds_ours() -> usize {
         while steps.iter().any(|step| step.next == 0) {
             for step in &mut steps {
                 if step.next == 0 {
-                    let applied = sys::apply(space, step.call);
-                    space = applied.space;
-                    *step = sys::resume(step.process, applied.reply);
+                    let judged = sys::judge(&space, &step.call);
+                    if judged.change != 0 {
+                        space = sys::carry_out(&space, &step.call.entry, judged.change, judged.at);
+                    }
+                    *step = sys::resume(step.process, judged.reply);
                     calls += 1;
                 }
             }
@@ -182,7 +184,7 @@ fn least(trial: impl Fn(usize) -> bool) -> usize {
 }
 
 /// The functions of the library whose stack is measured; none gives what a thread of Rust needs itself.
-const FUNCTIONS: [&str; 6] = ["none", "read", "start", "resume", "apply", "script"];
+const FUNCTIONS: [&str; 8] = ["none", "read", "start", "resume", "apply", "judge", "carry_out", "script"];
 
 /// Calls one function of the library on a thread with so many KB of stack; too few end the program.
 fn on_a_thread(function: String, kilobytes: usize) {
@@ -202,6 +204,8 @@ fn on_a_thread(function: String, kilobytes: usize) {
             let process = sys::start(space.config, 1, 0, 0, 5).process;
             assert_eq!(black_box(sys::resume(process, sys::Reply::default())).refusal, 0);
         }
+        "judge" => assert_eq!(black_box(sys::judge(&space, &call)).reply.refusal, 0),
+        "carry_out" => assert_eq!(black_box(sys::carry_out(&space, &call.entry, 1, 0)).count, 16),
         "apply" => assert_eq!(black_box(sys::apply(*space, call)).reply.refusal, 0),
         "script" => assert!(black_box(sys::script(&long, &mut text)).is_ok()),
         _ => {}

@@ -5,6 +5,7 @@
 
 use reference::records::{read_record, record_of, write_record};
 use reference::script::run_into;
+use reference::sys::TUPLES;
 use reference::{flat, sys};
 use reference::{
     Answer, AnswerKind, Board, Call, Config, Field, Kind, Offset, Phase, Refusal, Seat, Step, Tuple,
@@ -162,18 +163,55 @@ pub fn spoil_tuple(dice: &mut Dice, tuple: &mut Tuple, part: u64) {
 
 // ---- the comparisons
 
-/// A call on a board, by both: the answer and the whole board afterwards must be equal.
+/// A call on a board, by both: the answer and the whole board afterwards must be equal, also when the call is judged and carried out.
 pub fn compare_call(board: &mut Board, call: &Call) -> Answer {
-    let ours = sys::apply(flat::space(board), flat::call(call));
     let before = board.clone();
+    let ours = sys::apply(flat::space(&before), flat::call(call));
+    let (judged, carried) = judge(&before, call);
     let answer = Answer::from(board.call(call));
-    if ours.reply != flat::reply(&answer) || ours.space != flat::space(board) {
-        panic!(
-            "{call:?}\non {before:?}\nproved {:?} {:?}\nplain {answer:?} {board:?}",
-            ours.reply, ours.space
+    let expected = sys::Applied { reply: flat::reply(&answer), space: flat::space(board) };
+    if ours != expected {
+        panic!("{call:?}\non {before:?}\nproved {ours:?}\nplain {expected:?}");
+    }
+    if before.check().is_ok() {
+        assert!(
+            judged.reply == expected.reply && carried == expected.space,
+            "{call:?}\non {before:?}\njudged {judged:?}"
+        );
+    } else if before.config.check().is_err() || before.count > TUPLES {
+        assert!(
+            judged.reply == expected.reply && judged.change == 0,
+            "{call:?}\non {before:?}\njudged {judged:?}"
         );
     }
     answer
+}
+
+/// A call judged and carried out.
+fn judge(board: &Board, call: &Call) -> (sys::Judged, sys::Space) {
+    let (space, call) = (flat::space(board), flat::call(call));
+    let judged = sys::judge(&space, &call);
+    (judged, sys::carry_out(&space, &call.entry, judged.change, judged.at))
+}
+
+/// A change carried out on any board: an entry that has no room, and a place that holds no tuple, change nothing.
+pub fn compare_change(board: &Board, entry: &Tuple, change: u8, at: usize) {
+    let before = flat::space(board);
+    let mut expected = before;
+    let count = before.count;
+    if change == 1 && count < TUPLES {
+        expected.tuples[count] = flat::tuple(entry);
+        expected.count += 1;
+    }
+    if change == 2 && count <= TUPLES && at < count {
+        expected.tuples[at..count].rotate_left(1);
+        expected.count -= 1;
+        expected.tuples[expected.count] = sys::Tuple::default();
+    }
+    assert!(
+        sys::carry_out(&before, &flat::tuple(entry), change, at) == expected,
+        "{change} {at} on {board:?}"
+    );
 }
 
 /// Writing a call's record, by both: the length or refusal and the whole buffer.

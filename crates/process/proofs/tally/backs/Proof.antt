@@ -1,22 +1,25 @@
--- `process::tally::backs` meets its contract: its tests are the definition's.
-use borrow.Author.Tests.{eq-eqb, ne-eqb}
+-- `process::tally::backs` meets its contract: its tests are the definition's, and a process found with the code of an offset is found.
+use mathlib.Core.Bool.{and-true}
+use mathlib.Core.Path.{sym, _∙_}
+use lib.Dec.{eqb}
+use borrow.Author.Tests.{eqb-true, eq-eqb, ne-eqb}
+use borrow.Table.Steps.{cases}
 use Rattle.process.specs.Tallies.{backs}
 use Rattle.process.proofs.tally.backs.Statement.{statement}
 use Rattle.process.proofs.tally.backs.Tie as tie
 
 returns : tie.Need-returns
 unfolding backs
-returns c = rw (eq-eqb (c .before .args .code) 0 (c .if1 .taken))
+returns c = rw (eq-eqb (c .before .args .value) 0 (c .if1 .taken), and-true)
 
 returns-2 : tie.Need-returns-2
 unfolding backs
 returns-2 c =
-    let a = c .before .before .args in rw (ne-eqb (a .code) 0 (c .before .if1 .left), eq-eqb (a .value) 0 (c .if2 .taken))
-
-returns-3 : tie.Need-returns-3
-unfolding backs
-returns-3 c =
-    let a = c .before .before .args in rw (ne-eqb (a .code) 0 (c .before .if1 .left), ne-eqb (a .value) 0 (c .if2 .left))
+    let a = c .before .args in
+    rw (ne-eqb (a .value) 0 (c .if1 .left))
+    (cases (eqb (a .code) 0)
+    (λ e. rw (e, ne-eqb (a .code) (a .value) (λ same. c .if1 .left (sym same ∙ eqb-true (a .code) 0 e))))
+    (λ e. rw e))
 
 pub backs-spec : {M : Type 1} → statement M
-backs-spec = tie.close (tie.spec returns returns-2 returns-3)
+backs-spec = tie.close (tie.spec returns returns-2)

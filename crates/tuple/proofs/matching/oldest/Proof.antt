@@ -10,7 +10,7 @@ use lib.ListN.{length, getD}
 use Rattle.tuple.specs.declared.field.Tuple.{Tuple}
 use Rattle.tuple.specs.Matching.{matches, oldestOf}
 use Rattle.tuple.proofs.Lengths.{six, long, long-six}
-use Rattle.tuple.proofs.MatchingLaws.{Left, left-more, unequal, equal, uncounted, Passed, found-here, passed-more, found-nowhere}
+use Rattle.tuple.proofs.MatchingLaws.{Left, left-more, unequal, equal, uncounted, Passed, matched-here, passed-more, matched-nowhere}
 use Rattle.tuple.proofs.matching.oldest.Statement.{statement}
 use Rattle.tuple.proofs.matching.oldest.Tie as tie
 
@@ -139,14 +139,17 @@ returns c =
     let u = j .before .before .before in
     let t = u .before in
     let a = t .before .before .before .args in
-    found-here (a .count) (a .t1) (a .t3) (t .tuples .i) no-tuple (t .tuples .inv .1) (below u) (inside u)
+    matched-here (a .count) (a .t1) (a .t3) (t .tuples .i) no-tuple (t .tuples .inv .1) (below u) (inside u)
     (equal (a .t3) (present u) (asked-six u) (present-six u) (j .loop .j) (j .loop .inv .1) (omega arith) (j .before .if1 .left))
+
+blank-requires : tie.Need-blank-requires Inv-loop μ-loop Inv-tuples μ-tuples
+blank-requires c κs = search needs
 
 returns-2 : tie.Need-returns-2 Inv-loop μ-loop Inv-tuples μ-tuples
 returns-2 c =
-    let t = c .before in
+    let t = c .before .before in
     let s = t .before .before .before in
-    found-nowhere (s .args .count) (s .args .t1) (s .args .t3) (t .tuples .i) no-tuple (t .tuples .inv .1) (omega (arith, long (s .args .t1) _ (s .good .0)))
+    matched-nowhere (s .args .count) (s .args .t1) (s .args .t3) (t .tuples .i) no-tuple (t .tuples .inv .1) (omega (arith, long (s .args .t1) _ (s .good .0))) (c .blank .result) (c .blank .ensures)
 
 pub oldest-spec : {M : Type 1} → statement M
 oldest-spec =
@@ -176,4 +179,5 @@ oldest-spec =
     loop-less
     loop-again
     returns
+    blank-requires
     returns-2)

@@ -1,7 +1,7 @@
--- `space::proposal::differ` meets its contract: its test is the definition's.
+-- `space::default::differ` meets its contract: its test is the definition's.
 use borrow.Author.Tests.{eq-eqb, ne-eqb}
-use Rattle.space.proofs.proposal.differ.Statement.{statement}
-use Rattle.space.proofs.proposal.differ.Tie as tie
+use Rattle.space.proofs.default.differ.Statement.{statement}
+use Rattle.space.proofs.default.differ.Tie as tie
 
 returns : tie.Need-returns
 returns c = rw (eq-eqb _ _ (c .if1 .taken))

@@ -1,12 +1,11 @@
--- `space::turn::remove` meets its contract. The loop's invariant: without the place before the loop's, the array is the first one without the tuple.
+-- `space::change::remove` meets its contract. The loop's invariant: without the place before the loop's, the array is the first one without the tuple.
 use borrow.Author.Needs.{needs}
 use Prim.Native.Nat.{_-_, _≤_}
 use native.Mathlib.Omega.{arith}
-use Rattle.space.proofs.Lengths.{typed}
-use Rattle.space.proofs.SpaceRules.{formed-few}
-use Rattle.space.proofs.TurnLaws.{Moved, moved-none, moved-more, moved-all}
-use Rattle.space.proofs.turn.remove.Statement.{statement}
-use Rattle.space.proofs.turn.remove.Tie as tie
+use Rattle.space.proofs.Lengths.{full}
+use Rattle.space.proofs.ChangeLaws.{Moved, moved-none, moved-more, moved-all}
+use Rattle.space.proofs.change.remove.Statement.{statement}
+use Rattle.space.proofs.change.remove.Tie as tie
 
 abbrev Inv-loop : tie.InvT-loop
 Inv-loop at count next₀ i₀ next i = Moved next₀ at next i
@@ -14,15 +13,14 @@ Inv-loop at count next₀ i₀ next i = Moved next₀ at next i
 abbrev μ-loop : tie.MeasureT-loop
 μ-loop at count next₀ i₀ next i = count - i
 
--- a well-formed space holds at most 128
 few : (c : tie.Start Inv-loop μ-loop) → c .args .space .count ≤ 128
-few c = formed-few (c .args .space) (c .pre .0)
+few c = c .pre .0
 
 add-i : tie.Need-add-i Inv-loop μ-loop
 add-i c = search needs
 
 loop-holds : tie.Need-loop-holds Inv-loop μ-loop
-loop-holds c = moved-none (c .args .space) (c .pre .0) (typed (c .args .space) _ (c .good .0)) (c .args .at) (c .pre .1)
+loop-holds c = moved-none (c .args .space) (c .pre .0) (full (c .args .space) _ (c .good .0)) (c .args .at) (c .pre .1)
 
 mul-tuple : tie.Need-mul-tuple Inv-loop μ-loop
 mul-tuple c = omega (arith, few (c .before .before))
@@ -49,7 +47,7 @@ loop-again : tie.Need-loop-again Inv-loop μ-loop
 loop-again c =
     let l = c .before .before in
     let s = l .before in
-    moved-more (s .args .space) (s .pre .0) (typed (s .args .space) _ (s .good .0)) (s .args .at) (l .loop .next) (l .loop .i) (l .loop .inv) (c .before .loop-test .taken) _
+    moved-more (s .args .space) (s .pre .0) (full (s .args .space) _ (s .good .0)) (s .args .at) (l .loop .next) (l .loop .i) (l .loop .inv) (c .before .loop-test .taken) _
 
 blank-requires : tie.Need-blank-requires Inv-loop μ-loop
 blank-requires c κs = search needs
@@ -70,7 +68,7 @@ returns : tie.Need-returns Inv-loop μ-loop
 returns c =
     let l = c .before .before in
     let s = l .before in
-    moved-all (s .args .space) (s .pre .0) (typed (s .args .space) _ (s .good .0)) (s .args .at) (l .loop .next) (l .loop .i) (l .loop .inv) (c .before .loop-test .left) (c .blank .result) (c .blank .ensures)
+    moved-all (s .args .space) (s .pre .0) (full (s .args .space) _ (s .good .0)) (s .args .at) (l .loop .next) (l .loop .i) (l .loop .inv) (c .before .loop-test .left) (c .blank .result) (c .blank .ensures)
 
 pub remove-spec : {M : Type 1} → statement M
 remove-spec =

@@ -1,5 +1,5 @@
 -- What goes out in numbers comes back in as it was, case by case.
-use mathlib.Core.Path.{_≡_, refl, sym, ap, _∙_}
+use mathlib.Core.Path.{_≡_, refl, sym}
 use mathlib.Core.Bool.{true, false≢true}
 use Prim.Native.Nat.{ℕ, zero, suc}
 use native.Mathlib.Omega.{arith}
@@ -9,7 +9,6 @@ use Rattle.board_c.specs.Laws.{ReplyRule, ChangeRule, ProcessRule, KeptR
 use Rattle.process.specs.declared.process.Phase.{Phase}
 use Rattle.process.specs.declared.process.Phase.the-variants.{Proposing, Reading, Deciding, Decided}
 use Rattle.space.specs.declared.change.Change.the-variants.{Keep, Append, Remove}
-use Rattle.tuple.specs.declared.refusal.Refusal.{Refusal}
 use Rattle.tuple.specs.declared.refusal.Refusal.the-variants.{Unsound, Cut, Beyond, Unknown, Misshapen, Stranger, Denied, Full, LongScript, NoRoom, Unfit}
 use Rattle.tuple.specs.declared.reply.Outcome.{Outcome}
 use Rattle.tuple.specs.declared.reply.Outcome.the-variants.{Done, None, Found, Inserted, Held, Refused}

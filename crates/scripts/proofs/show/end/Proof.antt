@@ -1,7 +1,6 @@
 -- `scripts::show::end` ends and stays in its buffer: the text is no longer than the buffer that it is in.
 use borrow.Author.Needs.{needs}
 use Prim.Native.Nat.{_≤_}
-use native.Mathlib.Omega.{arith}
 use lib.ListN.{length}
 use Rattle.script.proofs.RoomLaws.{printed-inside}
 use Rattle.scripts.proofs.show.end.Statement.{statement}

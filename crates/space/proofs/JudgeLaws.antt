@@ -13,7 +13,7 @@ use Rattle.space.specs.declared.judging.Judged.{Judged}
 use Rattle.space.specs.declared.space.Applied.{Applied}
 use Rattle.space.specs.declared.space.Space.{Space}
 use Rattle.space.specs.Calls.{inserted, rdpEffect, inpEffect, casEffect, effect}
-use Rattle.space.specs.Judging.{changeOf, judgedBy, answered, judged, appends, carriedOut}
+use Rattle.space.specs.Judging.{changeOf, judgedBy, bounded, answered, judged, firstRefusal, appends, carriedOut}
 use Rattle.space.specs.Laws.{Standing, JudgeRule}
 use Rattle.space.specs.Policies.{verdict}
 use Rattle.space.specs.Spaces.{held, wellFormed}
@@ -28,10 +28,30 @@ use Rattle.tuple.specs.declared.matching.Found.{Found}
 use Rattle.tuple.specs.declared.matching.Found.the-variants.{At, Nowhere}
 use Rattle.tuple.specs.declared.reply.Outcome.{Outcome}
 use Rattle.tuple.specs.declared.reply.Outcome.the-variants as outcome
-use Rattle.tuple.specs.Faults.{callFault}
+use Rattle.tuple.specs.Faults.{unless, first, callFault}
 use Rattle.tuple.specs.Fields.{out, rdp, inp, capacity}
 use Rattle.tuple.specs.Matching.{oldestOf, tupleAt}
+use Rattle.tuple.specs.Refusals.{refusal}
 use Rattle.tuple.proofs.MatchRules.{oldest-rule}
+
+-- ---- the refusals in their order
+
+module _ (space : Space) (call : Call) where
+  -- what comes behind the call's fault
+  call-first : callStep space call
+      ≡ verdictStep space call (unless (leb 1 (call .process) && leb (call .process) (space .config .n)) (refusal 6) (verdict (space .config) (held space) call))
+  call-first = cases (leb 1 (call .process) && leb (call .process) (space .config .n)) (λ e. rw e) (λ e. rw e)
+
+  fault-first : (fault : Fault)
+      → faultStep space call fault
+      ≡ verdictStep space call
+      (first fault (unless (leb 1 (call .process) && leb (call .process) (space .config .n)) (refusal 6) (verdict (space .config) (held space) call)))
+  fault-first Absent = call-first
+  fault-first (Present why) = refl
+
+  pub answered-first : answered space call ≡ verdictStep space call (firstRefusal space call)
+  unfolding firstRefusal
+  answered-first = cases (bounded space) (λ e. rw e (fault-first (callFault call))) (λ e. rw e)
 
 -- ---- the reply and the change
 

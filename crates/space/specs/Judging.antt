@@ -1,7 +1,7 @@
 -- A call in two steps: judged, which gives the reply and what becomes of the space, and carried out. The tuples are taken as they are: each place
 -- is tested by `applied` alone, which on a well-formed space is these two steps (`JudgeRule`).
 use Prim.Native.Nat.{ℕ, _+_, _-_}
-use mathlib.Core.Bool.{cond, _&&_}
+use mathlib.Core.Bool.{Bool, cond, _&&_}
 use mathlib.Core.List.{List, _∷_, _++_}
 use lib.ListN.{drop, set}
 use lib.Dec.{leb, ltb, eqb}
@@ -12,8 +12,10 @@ use Rattle.space.specs.declared.space.Applied.{Applied}
 use Rattle.space.specs.declared.space.Space.{Space}
 use Rattle.space.specs.Calls.{without}
 use Rattle.space.specs.Configs.{sound}
+use Rattle.space.specs.Policies.{verdict}
 use Rattle.space.specs.Spaces.{held}
 use Rattle.space.specs.Turns.{refused, faultStep}
+use Rattle.tuple.specs.declared.fault.Fault.{Fault}
 use Rattle.tuple.specs.declared.field.Call.{Call}
 use Rattle.tuple.specs.declared.field.Tuple.{Tuple}
 use Rattle.tuple.specs.declared.matching.Found.{Found}
@@ -21,7 +23,7 @@ use Rattle.tuple.specs.declared.matching.Found.the-variants as found
 use Rattle.tuple.specs.declared.refusal.Refusal.{Refusal}
 use Rattle.tuple.specs.declared.reply.Outcome.{Outcome}
 use Rattle.tuple.specs.declared.reply.Outcome.the-variants as outcome
-use Rattle.tuple.specs.Faults.{callFault}
+use Rattle.tuple.specs.Faults.{unless, first, callFault}
 use Rattle.tuple.specs.Fields.{inp, capacity, blankTuple}
 use Rattle.tuple.specs.Matching.{oldestOf}
 use Rattle.tuple.specs.Refusals.{refusal}
@@ -45,13 +47,23 @@ changeOf tuples call (outcome.Refused why) = Keep
 abbrev pub judgedBy : List Tuple → Call → Applied → Judged
 judgedBy tuples call done = record { reply = done .reply; change = changeOf tuples call (done .reply .outcome) }
 
--- the answer of a space with a sound configuration and at most 128 tuples
+-- a sound configuration, and at most 128 tuples
+abbrev pub bounded : Space → Bool
+bounded space = sound (space .config) && leb (space .count) capacity
+
 abbrev pub answered : Space → Call → Applied
-answered space call =
-    cond (sound (space .config) && leb (space .count) capacity) (faultStep space call (callFault call)) (refused space (refusal 1))
+answered space call = cond (bounded space) (faultStep space call (callFault call)) (refused space (refusal 1))
 
 unfoldable pub judged : Space → Call → Judged
 judged space call = judgedBy (held space) call (answered space call)
+
+-- the first refusal that the call meets, of 1 and 3 to 7
+unfoldable pub firstRefusal : Space → Call → Fault
+firstRefusal space call =
+    unless (bounded space) (refusal 1)
+    (first (callFault call)
+    (unless (leb 1 (call .process) && leb (call .process) (space .config .n)) (refusal 6)
+    (verdict (space .config) (held space) call)))
 
 -- a refused call changes nothing
 abbrev pub denied : Refusal → Judged

@@ -1,7 +1,7 @@
 // A call judged: the refusals in their order, then the reply and what becomes of the space.
 ghost use mathlib.Core.Path.{_≡_};
 ghost use Rattle.space.specs.Calls.{effect};
-ghost use Rattle.space.specs.Judging.{denied, appends, judgedBy, judged};
+ghost use Rattle.space.specs.Judging.{firstRefusal, denied, appends, judgedBy, judged};
 ghost use Rattle.space.specs.Spaces.{held};
 ghost use Rattle.space.specs.Turns.{performed};
 use crate::change::Change;
@@ -29,26 +29,33 @@ pub struct Judged {
 pub fn judge(space: Space, call: Call) -> Judged
     ensures { λ r. ⌜ r ≡ judged space call ⌝ }
 {
-    let config = space.config;
-    if !config.is_sound() {
-        return refused(Refusal::Unsound);
-    }
-    if TUPLES < space.count {
-        return refused(Refusal::Unsound);
-    }
-    if let Fault::Present(refusal) = call.fault() {
-        return refused(refusal);
-    }
-    if call.process < 1 {
-        return refused(Refusal::Stranger);
-    }
-    if space.config.n < (call.process as u64) {
-        return refused(Refusal::Stranger);
-    }
-    if let Fault::Present(refusal) = verdict(space, call) {
+    if let Fault::Present(refusal) = first_refusal(space, call) {
         return refused(refusal);
     }
     perform(space, call)
+}
+
+// The first refusal that a call meets, of 1 and 3 to 7.
+fn first_refusal(space: Space, call: Call) -> Fault
+    ensures { λ r. ⌜ r ≡ firstRefusal space call ⌝ }
+{
+    let config = space.config;
+    if !config.is_sound() {
+        return Fault::Present(Refusal::Unsound);
+    }
+    if TUPLES < space.count {
+        return Fault::Present(Refusal::Unsound);
+    }
+    if let Fault::Present(refusal) = call.fault() {
+        return Fault::Present(refusal);
+    }
+    if call.process < 1 {
+        return Fault::Present(Refusal::Stranger);
+    }
+    if space.config.n < (call.process as u64) {
+        return Fault::Present(Refusal::Stranger);
+    }
+    verdict(space, call)
 }
 
 pub(crate) fn refused(refusal: Refusal) -> Judged

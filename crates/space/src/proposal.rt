@@ -77,8 +77,13 @@ pub(crate) fn strike_proposer(
     requires { ⌜ n ≤ processes ⌝ }
     ensures { λ r. ⌜ r ≡ cond (proposes· round (processOf tuple) low high tuple) (strike· (processOf tuple) n 1 set) set ⌝ }
 {
+    let second = tuple.fields[1];
     let third = tuple.fields[2];
     let process = third.value;
+    // most tuples are of another round
+    if second.value != round {
+        return set;
+    }
     if proposes(tuple, round, process, low, high) {
         strike(process, n, 1, set)
     } else {

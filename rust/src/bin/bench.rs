@@ -184,7 +184,8 @@ fn least(trial: impl Fn(usize) -> bool) -> usize {
 }
 
 /// The functions of the library whose stack is measured; none gives what a thread of Rust needs itself.
-const FUNCTIONS: [&str; 8] = ["none", "read", "start", "resume", "apply", "judge", "carry_out", "script"];
+const FUNCTIONS: [&str; 10] =
+    ["none", "read", "write", "start", "resume", "fresh", "apply", "judge", "carry_out", "script"];
 
 /// Calls one function of the library on a thread with so many KB of stack; too few end the program.
 fn on_a_thread(function: String, kilobytes: usize) {
@@ -199,6 +200,8 @@ fn on_a_thread(function: String, kilobytes: usize) {
     let mut text = vec![0; 2_000_000];
     let work = move || match function.as_str() {
         "read" => assert_eq!(black_box(sys::read(&long, 3)).refusal, 0),
+        "write" => assert!(black_box(sys::write(call, &mut text)).is_ok()),
+        "fresh" => assert_eq!(black_box(sys::fresh(space.config)).refusal, 0),
         "start" => assert_eq!(black_box(sys::start(space.config, 1, 0, 0, 5)).refusal, 0),
         "resume" => {
             let process = sys::start(space.config, 1, 0, 0, 5).process;

@@ -86,7 +86,8 @@ pub struct Read {
     pub call: Call,
 }
 
-/// The reply, and what becomes of the space: 0 nothing, 1 the entry goes behind the newest tuple, 2 the tuple at the place is taken off.
+/// The reply, and what becomes of the space: 0 nothing, 1 the entry goes behind the newest tuple, 2 the tuple at the place is taken off;
+/// the place, else 0.
 #[repr(C)]
 #[derive(Clone, Copy, Debug, Default, PartialEq, Eq)]
 pub struct Judged {
@@ -158,7 +159,7 @@ pub fn apply(space: Space, call: Call) -> Applied {
     unsafe { board_apply(space, call) }
 }
 
-/// A call on a space that came from `fresh` and `carry_out` alone: the reply, and what becomes of the space.
+/// A call on a well-formed space, whose places are not tested: the reply, and what becomes of the space.
 #[inline]
 pub fn judge(space: &Space, call: &Call) -> Judged {
     // Safety: only values cross.

@@ -266,7 +266,11 @@ fn changes_of_any_number() {
                 board.tuples[place] = odd_tuple(&mut dice);
             }
         }
-        let entry = odd_tuple(&mut dice);
+        let mut entry = odd_tuple(&mut dice);
+        if dice.one_in(4) {
+            let part = dice.below(19);
+            spoil_tuple(&mut dice, &mut entry, part);
+        }
         for change in [0, 1, 2, 3, 255] {
             let last = board.count.wrapping_sub(1);
             for at in [0, 1, last, board.count, 127, 128, dice.below(128) as usize, usize::MAX] {
@@ -275,7 +279,7 @@ fn changes_of_any_number() {
             }
         }
     }
-    count("changes of any number", inputs, "on boards with any count, each byte left behind".into());
+    count("changes of any number", inputs, "on boards with any count, each number left behind".into());
 }
 
 #[test]

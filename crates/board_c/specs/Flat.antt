@@ -38,7 +38,8 @@ use Rattle.space.specs.declared.space.Opened.{Opened}
 use Rattle.space.specs.declared.space.Opening.{Opening}
 use Rattle.space.specs.declared.space.Opening.the-variants.{Stands, Unopened}
 use Rattle.space.specs.declared.space.Space.{Space}
-use Rattle.space.specs.Judging.{judged as spaceJudged, carriedOut as spaceCarriedOut}
+use Rattle.space.specs.Changes.{carriedOut as spaceCarriedOut}
+use Rattle.space.specs.Judging.{judged as spaceJudged}
 use Rattle.space.specs.Spaces.{freshOf}
 use Rattle.space.specs.Turns.{applied as spaceApplied}
 use Rattle.tuple.specs.declared.field.Call.{Call}

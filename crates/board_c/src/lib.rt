@@ -62,8 +62,9 @@ pub extern "C" fn board_apply(space: Space, call: Call) -> FlatApplied
     flat_applied(space::apply(space, call))
 }
 
-// Judges a call on a space that came from board_fresh and board_carry_out alone: the reply, and what becomes of the space. The places of
-// such a space are not tested again.
+// Judges a call: the reply, and what becomes of the space. The places of the space are not tested. On a well-formed space, one from
+// board_fresh, from board_apply, or from board_carry_out with the entry and the change of the call judged before, this is board_apply's
+// reply, and board_carry_out gives its space.
 #[no_mangle]
 pub extern "C" fn board_judge(space: Space, call: Call) -> FlatJudged
     ensures { λ r. ⌜ r ≡ judged· space call ⌝ }
@@ -71,7 +72,8 @@ pub extern "C" fn board_judge(space: Space, call: Call) -> FlatJudged
     flat_judged(space::judge(space, call))
 }
 
-// The space after a change that a call with this entry was judged to make.
+// The space after a change: 1 the entry, which is not tested, goes behind the newest tuple; 2 the tuple at the place is taken off. Any
+// other number, an entry without room, a place that holds no tuple and a count above 128 change nothing.
 #[no_mangle]
 pub extern "C" fn board_carry_out(space: Space, entry: Tuple, change: u8, at: usize) -> Space
     ensures { λ r. ⌜ r ≡ carriedOut space entry change at ⌝ }

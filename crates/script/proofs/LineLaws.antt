@@ -19,12 +19,13 @@ use Rattle.record.proofs.WrittenLaws.{Wrote, wrote-then, wrote-length}
 use Rattle.space.specs.declared.judging.Judged.{Judged}
 use Rattle.space.specs.declared.space.Applied.{Applied}
 use Rattle.space.specs.declared.space.Space.{Space}
-use Rattle.space.specs.Judging.{judged, carriedOut}
-use Rattle.space.specs.Laws.{Standing}
+use Rattle.space.specs.Changes.{carriedOut}
+use Rattle.space.specs.Judging.{judged}
+use Rattle.space.specs.Laws.{Tidy}
 use Rattle.space.specs.Spaces.{wellFormed}
 use Rattle.space.specs.Turns.{applied}
-use Rattle.space.proofs.CallLaws.{kept, standing-rule}
-use Rattle.space.proofs.JudgeLaws.{judge-rule}
+use Rattle.space.proofs.CallLaws.{kept, tidy-rule}
+use Rattle.space.proofs.JudgingLaws.{judge-rule}
 use Rattle.tuple.specs.declared.field.Call.{Call}
 use Rattle.tuple.specs.declared.refusal.Refusal.{Refusal}
 use Rattle.varint.specs.Laws.{Bytes}
@@ -32,7 +33,7 @@ use Rattle.varint.specs.Laws.{Bytes}
 -- `whole` is to stand at the place `at` of `first`; the records from `here` on are left to print, from `place` on
 pub record Left (s first : List ℕ) (at : ℕ) (whole out : List ℕ) (place here number : ℕ) (space : Space) : Type 0 where
   pub formed : wellFormed space ≡ true
-  pub standing : Standing space
+  pub tidy : Tidy space
   pub numbered : number ≤ here + 1
   pub same : sets out place (linesOn number space (recordsAt s here)) ≡ sets first at whole
   pub behind : place + length (linesOn number space (recordsAt s here)) ≡ at + length whole
@@ -45,7 +46,7 @@ pub judged-turn : {s first : List ℕ} {at : ℕ} {whole out : List ℕ} {place 
 judged-turn {space = space} left call by is after carried =
     ap {B = Applied} (λ (s : Space). record { reply = by .reply; space = s }) carried
     ∙ ap {B = Applied} (λ (j : Judged). record { reply = j .reply; space = carriedOut space (call .entry) (j .change) }) is
-    ∙ sym (judge-rule space call (left .standing) (left .formed))
+    ∙ sym (judge-rule space call (left .tidy) (left .formed))
 
 -- all that was left is printed
 pub finished : {s first : List ℕ} {at : ℕ} {whole out : List ℕ} {place here number : ℕ} {space : Space} {next : ℕ} {after rest : List ℕ}
@@ -85,7 +86,7 @@ module _ (s : List ℕ) (here number : ℕ) (space : Space) (inside : here < len
         let rest = linesOn (number + 1) (turn .space) (recordsAt s (cursor .at)) in
         record {
           formed = rw made (kept space (read .call) (left .formed));
-          standing = rw made (standing-rule space (read .call) (left .standing));
+          tidy = rw made (tidy-rule space (read .call) (left .tidy));
           numbered = omega (arith, onward, left .numbered);
           same = wrote-then out place line rest wrote (refl, refl) .1 ∙ ap (sets out place) (sym at-turn) ∙ left .same;
           behind = omega (arith, turn-length, wrote .0, left .behind);

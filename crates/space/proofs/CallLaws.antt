@@ -9,7 +9,7 @@ use Rattle.space.specs.declared.space.Applied.{Applied}
 use Rattle.space.specs.Calls.{effect}
 use Rattle.space.specs.Spaces.{held, spaceOf, wellFormed}
 use Rattle.space.specs.Turns.{applied}
-use Rattle.space.specs.Laws.{Denied, DeniedRule, Typed, Unchanged, Kept, Standing, StandingRule}
+use Rattle.space.specs.Laws.{Denied, DeniedRule, Typed, Unchanged, Kept, Tidy, TidyRule}
 use Rattle.space.proofs.SpaceRules.{held-of, formed-of, formed-sound, held-lawful, formed-same}
 use Rattle.space.proofs.CallSteps.{Puts, Moves, moves, moves-lawful, Steps, steps}
 use Rattle.tuple.specs.declared.field.Tuple.{Tuple}
@@ -50,10 +50,10 @@ module _ (space : Space) (call : Call) where
       formed-of (space .config) (effect (held space) call .tuples) (formed-sound space formed)
       (moves-lawful sound (held-lawful space formed) (moves (held space) call sound))
 
-  steps-standing : {after : Applied} → Standing space → Steps space call after → Standing (after .space)
-  steps-standing standing (Steps.refuses why low) = standing
-  steps-standing standing (Steps.denies d) = standing
-  steps-standing standing (Steps.obeys _ sound known p) = ap (spaceOf (space .config)) (held-of (space .config) (effect (held space) call .tuples))
+  steps-tidy : {after : Applied} → Tidy space → Steps space call after → Tidy (after .space)
+  steps-tidy tidy (Steps.refuses why low) = tidy
+  steps-tidy tidy (Steps.denies d) = tidy
+  steps-tidy tidy (Steps.obeys _ sound known p) = ap (spaceOf (space .config)) (held-of (space .config) (effect (held space) call .tuples))
 
 pub denied-rule : DeniedRule
 unfolding applied
@@ -65,8 +65,8 @@ denied-rule space call = (
 pub unchanged : Unchanged
 unchanged space call why typed = steps-unchanged space call why typed (steps space call)
 
-pub standing-rule : StandingRule
-standing-rule space call standing = steps-standing space call standing (steps space call)
+pub tidy-rule : TidyRule
+tidy-rule space call tidy = steps-tidy space call tidy (steps space call)
 
 pub kept : Kept
 kept space call formed = steps-kept space call formed (steps space call)

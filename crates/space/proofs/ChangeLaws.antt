@@ -1,5 +1,5 @@
--- The laws of what becomes of a space that the code cites, over plain values: a tuple taken off; and that on a well-formed space they are what
--- calls do.
+-- The laws of what becomes of a space that the code cites, over plain values: a tuple taken off; and that on a tidy space an entry appended and
+-- a tuple taken off are what calls do.
 use mathlib.Core.Path.{_≡_, refl, sym, ap, ap₂, _∙_}
 use Prim.Native.Nat.{ℕ, suc, _+_, _-_, _≤_, _<_}
 use native.Mathlib.Omega.{arith}
@@ -8,8 +8,8 @@ use lib.ListN.{length, take, drop, getD, set, replicate, length-append, length-t
 use lib.Seq.{length-take-le, take-append-le, drop-append-le, append-snoc, take-at, drop-at, set-at, set-split, take-suc-set, drop-set-lt}
 use Rattle.space.specs.declared.space.Space.{Space}
 use Rattle.space.specs.Calls.{without}
-use Rattle.space.specs.Judging.{appended, removed}
-use Rattle.space.specs.Laws.{Standing}
+use Rattle.space.specs.Changes.{appended, removed}
+use Rattle.space.specs.Laws.{Tidy}
 use Rattle.space.specs.Spaces.{held, spaceOf}
 use Rattle.tuple.specs.declared.field.Tuple.{Tuple}
 use Rattle.tuple.specs.Fields.{capacity, blankTuple}
@@ -106,35 +106,35 @@ blanks n = replicate (capacity - n) blankTuple
 fewer : (n : ℕ) → n < capacity → blanks n ≡ blankTuple ∷ blanks (n + 1)
 fewer n room = let one : capacity - n ≡ suc (capacity - (n + 1)) = omega arith in ap (λ (m : ℕ). replicate m blankTuple) one
 
-module _ (space : Space) (standing : Standing space) where
-  counted : length (held space) ≡ space .count
-  counted = ap (λ (s : Space). s .count) standing
+module _ (space : Space) (tidy : Tidy space) where
+  pub tidy-count : length (held space) ≡ space .count
+  tidy-count = ap (λ (s : Space). s .count) tidy
 
   same : space ≡ spaceOf (space .config) (held space)
-  same = sym standing
+  same = sym tidy
 
   -- the entry goes where the first blank stands
-  pub append-standing : space .count < capacity → (entry : Tuple) → spaceOf (space .config) (held space ++ (entry ∷ [])) ≡ appended space entry
-  append-standing room entry =
+  pub append-tidy : space .count < capacity → (entry : Tuple) → spaceOf (space .config) (held space ++ (entry ∷ [])) ≡ appended space entry
+  append-tidy room entry =
       let count = space .count in
-      let long : count + 1 ≡ length (held space ++ (entry ∷ [])) = simp length-append (omega (arith, counted)) in
+      let long : count + 1 ≡ length (held space ++ (entry ∷ [])) = simp length-append (omega (arith, tidy-count)) in
       let stored : set (space .tuples) count entry ≡ held space ++ (entry ∷ []) ++ blanks (length (held space ++ (entry ∷ []))) =
       ap (λ (s : Space). set (s .tuples) count entry) same
-      ∙ ap (λ (l : List Tuple). set (held space ++ l) count entry) (ap blanks counted ∙ fewer count room)
-      ∙ set-at (held space) blankTuple (blanks (count + 1)) entry count counted
+      ∙ ap (λ (l : List Tuple). set (held space ++ l) count entry) (ap blanks tidy-count ∙ fewer count room)
+      ∙ set-at (held space) blankTuple (blanks (count + 1)) entry count tidy-count
       ∙ sym (append-snoc (held space) entry (blanks (count + 1)))
       ∙ ap (λ (n : ℕ). held space ++ (entry ∷ []) ++ blanks n) long in
       sym (λ k. record { config = space .config; count = long k; tuples = stored k })
 
-  -- behind those left stand a blank more
-  pub remove-standing : (i : ℕ) → i < space .count → space .count ≤ capacity → spaceOf (space .config) (without i (held space)) ≡ removed space i
-  remove-standing i h few =
+  -- behind those left stands one blank more
+  pub remove-tidy : (i : ℕ) → i < space .count → space .count ≤ capacity → spaceOf (space .config) (without i (held space)) ≡ removed space i
+  remove-tidy i h few =
       let count = space .count in
       let rest = without i (held space) in
-      let left : length rest ≡ count - 1 = without-length i (held space) (omega (arith, counted)) ∙ ap (λ (n : ℕ). n - 1) counted in
+      let left : length rest ≡ count - 1 = without-length i (held space) (omega (arith, tidy-count)) ∙ ap (λ (n : ℕ). n - 1) tidy-count in
       let last : count - 1 + 1 ≡ count = omega arith in
       let behind : drop count (space .tuples) ≡ blanks count =
-      ap (λ (s : Space). drop count (s .tuples)) same ∙ drop-at (held space) (blanks (length (held space))) count counted ∙ ap blanks counted in
+      ap (λ (s : Space). drop count (s .tuples)) same ∙ drop-at (held space) (blanks (length (held space))) count tidy-count ∙ ap blanks tidy-count in
       let stored : rest ++ blanks (length rest) ≡ rest ++ (blankTuple ∷ drop count (space .tuples)) =
       ap (λ (l : List Tuple). rest ++ l) (ap blanks left ∙ fewer (count - 1) (omega arith) ∙ ap (λ (n : ℕ). blankTuple ∷ blanks n) last ∙ ap (λ (l : List Tuple). blankTuple ∷ l) (sym behind)) in
       λ k. record { config = space .config; count = left k; tuples = stored k }

@@ -7,7 +7,7 @@ pub mod Decisions
 pub mod DefaultLaws
 pub mod Effects
 pub mod FormedLaws
-pub mod JudgeLaws
+pub mod JudgingLaws
 pub mod Keys
 pub mod Lengths
 pub mod MemberLaws
@@ -21,3 +21,4 @@ pub mod SpaceRules
 mod Strikes
 pub mod SumLaws
 pub mod TallyLaws
+pub mod TwoStepLaws

@@ -1,16 +1,14 @@
--- A call in two steps: judged, which gives the reply and what becomes of the space, and carried out. The tuples are taken as they are: each place
--- is tested by `applied` alone, which on a well-formed space is these two steps (`JudgeRule`).
-use Prim.Native.Nat.{ℕ, _+_, _-_}
+-- Document 01, "What is returned, and for what", a call on a space without the test of each place: the reply, and what becomes of the space. On a
+-- well-formed space a call is `judged` and what becomes of the space `carriedOut` (`JudgeRule`).
+use Prim.Native.Nat.{ℕ}
 use mathlib.Core.Bool.{Bool, cond, _&&_}
-use mathlib.Core.List.{List, _∷_, _++_}
-use lib.ListN.{drop, set}
+use mathlib.Core.List.{List}
 use lib.Dec.{leb, ltb, eqb}
 use Rattle.space.specs.declared.change.Change.{Change}
 use Rattle.space.specs.declared.change.Change.the-variants.{Keep, Append, Remove}
 use Rattle.space.specs.declared.judging.Judged.{Judged}
 use Rattle.space.specs.declared.space.Applied.{Applied}
 use Rattle.space.specs.declared.space.Space.{Space}
-use Rattle.space.specs.Calls.{without}
 use Rattle.space.specs.Configs.{sound}
 use Rattle.space.specs.Policies.{verdict}
 use Rattle.space.specs.Spaces.{held}
@@ -28,36 +26,36 @@ use Rattle.tuple.specs.Fields.{inp, capacity, blankTuple}
 use Rattle.tuple.specs.Matching.{oldestOf}
 use Rattle.tuple.specs.Refusals.{refusal}
 
--- ---- judged
-
 -- inp takes off the tuple that it finds
 abbrev pub removal : Found → Change
 removal (found.At i) = Remove i
 removal found.Nowhere = Keep
 
--- what becomes of the tuples, by the answer: an entry that is done or inserted is appended
-abbrev pub changeOf : List Tuple → Call → Outcome → Change
-changeOf tuples call outcome.Done = Append
-changeOf tuples call outcome.None = Keep
-changeOf tuples call outcome.Found = cond (eqb (call .code) inp) (removal (oldestOf tuples (call .template))) Keep
-changeOf tuples call outcome.Inserted = Append
-changeOf tuples call outcome.Held = Keep
-changeOf tuples call (outcome.Refused why) = Keep
+-- what becomes of the tuples, by the answer: done and inserted append the entry, an inp that found takes its tuple off, all else keeps them
+abbrev pub changeBy : List Tuple → Call → Outcome → Change
+changeBy tuples call outcome.Done = Append
+changeBy tuples call outcome.None = Keep
+changeBy tuples call outcome.Found = cond (eqb (call .code) inp) (removal (oldestOf tuples (call .template))) Keep
+changeBy tuples call outcome.Inserted = Append
+changeBy tuples call outcome.Held = Keep
+changeBy tuples call (outcome.Refused why) = Keep
 
 abbrev pub judgedBy : List Tuple → Call → Applied → Judged
-judgedBy tuples call done = record { reply = done .reply; change = changeOf tuples call (done .reply .outcome) }
+judgedBy tuples call done = record { reply = done .reply; change = changeBy tuples call (done .reply .outcome) }
 
 -- a sound configuration, and at most 128 tuples
 abbrev pub bounded : Space → Bool
 bounded space = sound (space .config) && leb (space .count) capacity
 
-abbrev pub answered : Space → Call → Applied
-answered space call = cond (bounded space) (faultStep space call (callFault call)) (refused space (refusal 1))
+-- refused 1 unless it has that; the places are not tested
+abbrev pub boundedStep : Space → Call → Applied
+boundedStep space call = cond (bounded space) (faultStep space call (callFault call)) (refused space (refusal 1))
 
+-- the reply, and what becomes of the space
 unfoldable pub judged : Space → Call → Judged
-judged space call = judgedBy (held space) call (answered space call)
+judged space call = judgedBy (held space) call (boundedStep space call)
 
--- the first refusal that the call meets, of 1 and 3 to 7
+-- the first refusal that the call meets, of 1 and 3 to 7: the order of `boundedStep` (`bounded-first`)
 unfoldable pub firstRefusal : Space → Call → Fault
 firstRefusal space call =
     unless (bounded space) (refusal 1)
@@ -66,30 +64,9 @@ firstRefusal space call =
     (verdict (space .config) (held space) call)))
 
 -- a refused call changes nothing
-abbrev pub denied : Refusal → Judged
-denied why = record { reply = record { outcome = outcome.Refused why; tuple = blankTuple }; change = Keep }
+abbrev pub refuses : Refusal → Judged
+refuses why = record { reply = record { outcome = outcome.Refused why; tuple = blankTuple }; change = Keep }
 
--- an entry is appended to this many tuples; to 128 it is refused 8
+-- an entry is appended to this many tuples; to 128 or more it is refused 8
 abbrev pub appends : ℕ → Outcome → Judged
-appends count how = cond (ltb count capacity) (record { reply = record { outcome = how; tuple = blankTuple }; change = Append }) (denied (refusal 8))
-
--- ---- carried out
-
--- the entry stands behind the tuples held
-abbrev pub appended : Space → Tuple → Space
-appended space entry = record { config = space .config; count = space .count + 1; tuples = set (space .tuples) (space .count) entry }
-
--- the rest keeps its order, and a blank stands where the last of the tuples held stood
-abbrev pub removed : Space → ℕ → Space
-removed space i =
-    record {
-      config = space .config;
-      count = space .count - 1;
-      tuples = without i (held space) ++ (blankTuple ∷ drop (space .count) (space .tuples));
-    }
-
--- an entry that has no room, and a place that holds no tuple, change nothing
-unfoldable pub carriedOut : Space → Tuple → Change → Space
-carriedOut space entry Keep = space
-carriedOut space entry Append = cond (ltb (space .count) capacity) (appended space entry) space
-carriedOut space entry (Remove i) = cond (leb (space .count) capacity && ltb i (space .count)) (removed space i) space
+appends count how = cond (ltb count capacity) (record { reply = record { outcome = how; tuple = blankTuple }; change = Append }) (refuses (refusal 8))

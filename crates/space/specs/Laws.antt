@@ -9,7 +9,8 @@ use lib.ListN.{length, getD}
 use Rattle.space.specs.declared.config.Config.{Config}
 use Rattle.space.specs.declared.space.Space.{Space}
 use Rattle.space.specs.Configs.{processes, rounds, policies, sound}
-use Rattle.space.specs.Judging.{judged, carriedOut}
+use Rattle.space.specs.Changes.{carriedOut}
+use Rattle.space.specs.Judging.{judged}
 use Rattle.space.specs.Members.{within, counted}
 use Rattle.space.specs.Default.{decidedOf, setOf}
 use Rattle.space.specs.Policies.{permits}
@@ -167,17 +168,17 @@ pub record Formed (space : Space) : Type 0 where
 abbrev pub WellFormedRule : Type 0
 WellFormedRule = (space : Space) → Typed space → (wellFormed space ≡ true) ↔ Formed space
 
--- a space that is the one of the tuples it holds, as a fresh one and each well-formed one that is `Typed`
-abbrev pub Standing : Space → Type 0
-Standing space = spaceOf (space .config) (held space) ≡ space
+-- a space that is the one of the tuples it holds: a blank tuple stands at each other place
+abbrev pub Tidy : Space → Type 0
+Tidy space = spaceOf (space .config) (held space) ≡ space
 
-abbrev pub StandingRule : Type 0
-StandingRule = (space : Space) (call : Call) → Standing space → Standing (applied space call .space)
+abbrev pub TidyRule : Type 0
+TidyRule = (space : Space) (call : Call) → Tidy space → Tidy (applied space call .space)
 
--- on such a space that is well formed a call is judged, and what becomes of the space is carried out
+-- on such a space that is well formed, to judge a call and carry out what becomes of the space is to apply it
 abbrev pub JudgeRule : Type 0
 JudgeRule =
-    (space : Space) (call : Call) → Standing space → wellFormed space ≡ true
+    (space : Space) (call : Call) → Tidy space → wellFormed space ≡ true
     → applied space call ≡ record { reply = judged space call .reply; space = carriedOut space (call .entry) (judged space call .change) }
 
 -- a refused call leaves the space as it was

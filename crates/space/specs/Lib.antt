@@ -1,4 +1,5 @@
 pub mod Calls
+pub mod Changes
 pub mod Configs
 pub mod Default
 pub mod Judging

@@ -9,6 +9,8 @@ use lib.Dec.{eqb}
 use Rattle.space.specs.declared.config.Config.{Config}
 use Rattle.space.specs.declared.space.Space.{Space}
 use Rattle.space.specs.Configs.{sound}
+use Rattle.space.specs.Changes.{carriedOut}
+use Rattle.space.specs.Judging.{judged}
 use Rattle.space.specs.Policies.{permits}
 use Rattle.space.specs.Proposals.{processOf}
 use Rattle.space.specs.Shapes.{roundOf, isProposal, isDecision}
@@ -32,6 +34,20 @@ after space calls = lastOf space (turnsFrom space calls)
 
 abbrev pub last : Config → List Call → Space
 last config calls = after (freshOf config .space) calls
+
+-- ---- calls in two steps
+
+-- the turns of calls that are judged and carried out, each on the space that the one before left
+unfoldable pub judgedFrom : Space → List Call → List Turn
+judgedFrom space [] = []
+judgedFrom space (call ∷ calls) =
+    let given = judged space call in
+    let left = carriedOut space (call .entry) (given .change) in
+    record { call = call; reply = given .reply; space = left } ∷ judgedFrom left calls
+
+-- from a fresh space, under any policy, they are the turns of the calls
+abbrev pub TwoSteps : Type 0
+TwoSteps = (config : Config) (calls : List Call) → judgedFrom (freshOf config .space) calls ≡ turns config calls
 
 -- ---- counts of turns
 

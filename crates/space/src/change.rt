@@ -1,13 +1,14 @@
 // What becomes of the tuples of a space, and carrying it out.
 ghost use mathlib.Core.Path.{_≡_};
 ghost use Prim.Native.Nat.{_≤_, _<_};
-ghost use Rattle.space.specs.Judging.{carriedOut, appended, removed};
+ghost use Rattle.space.specs.Changes.{carriedOut, appended, removed};
 ghost use Rattle.tuple.specs.Fields.{capacity};
 use crate::space::Space;
 use tuple::TUPLES;
 use tuple::Tuple;
 
 pub enum Change {
+    // The tuples stay as they are.
     Keep,
     // The call's entry goes behind the newest.
     Append,
@@ -15,7 +16,7 @@ pub enum Change {
     Remove(usize),
 }
 
-// The space after a change. An entry that has no room, and a place that holds no tuple, change nothing.
+// The space after a change. An entry that has no room, a place that holds no tuple, and a count above 128 change nothing.
 pub fn carry_out(space: Space, entry: Tuple, change: Change) -> Space
     ensures { λ r. ⌜ r ≡ carriedOut space entry change ⌝ }
 {

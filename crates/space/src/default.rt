@@ -47,6 +47,7 @@ fn offers(tuple: Tuple, round: u64) -> bool
     fourth.value != BOTTOM
 }
 
+// 1 for two numbers that differ.
 fn differ(a: u64, b: u64) -> u64
     ensures { λ r. ⌜ r ≡ cond (eqb a b) 0 1 ⌝ }
 {

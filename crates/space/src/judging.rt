@@ -1,7 +1,7 @@
 // A call judged: the refusals in their order, then the reply and what becomes of the space.
 ghost use mathlib.Core.Path.{_≡_};
 ghost use Rattle.space.specs.Calls.{effect};
-ghost use Rattle.space.specs.Judging.{firstRefusal, denied, appends, judgedBy, judged};
+ghost use Rattle.space.specs.Judging.{firstRefusal, refuses as refuses·, appends as appends·, judgedBy, judged};
 ghost use Rattle.space.specs.Spaces.{held};
 ghost use Rattle.space.specs.Turns.{performed};
 use crate::change::Change;
@@ -25,7 +25,7 @@ pub struct Judged {
     pub change: Change,
 }
 
-// Judges a call on a space whose tuples are taken as they are: only the configuration and how many there are is tested.
+// Judges a call on a space whose tuples are taken as they are: only the configuration and how many there are are tested.
 pub fn judge(space: Space, call: Call) -> Judged
     ensures { λ r. ⌜ r ≡ judged space call ⌝ }
 {
@@ -59,7 +59,7 @@ fn first_refusal(space: Space, call: Call) -> Fault
 }
 
 pub(crate) fn refused(refusal: Refusal) -> Judged
-    ensures { λ r. ⌜ r ≡ denied refusal ⌝ }
+    ensures { λ r. ⌜ r ≡ refuses· refusal ⌝ }
 {
     answered(Outcome::Refused(refusal), Tuple::blank(), Change::Keep)
 }
@@ -73,7 +73,7 @@ fn answered(outcome: Outcome, tuple: Tuple, change: Change) -> Judged
     }
 }
 
-// What a permitted call does.
+// What a permitted call is answered, and what becomes of the space.
 fn perform(space: Space, call: Call) -> Judged
     ensures { λ r. ⌜ r ≡ judgedBy (held space) call (performed (space .config) (effect (held space) call)) ⌝ }
 {
@@ -81,7 +81,7 @@ fn perform(space: Space, call: Call) -> Judged
     let template = call.template;
     let count = space.count;
     if code == OUT {
-        return append(count, Outcome::Done);
+        return appends(count, Outcome::Done);
     }
     let tuples = space.tuples;
     let oldest = tuple::oldest(tuples, count, template);
@@ -104,14 +104,14 @@ fn perform(space: Space, call: Call) -> Judged
             if code == INP {
                 return answered(Outcome::None, tuple, Change::Keep);
             }
-            append(count, Outcome::Inserted)
+            appends(count, Outcome::Inserted)
         }
     }
 }
 
 // The entry is appended, or refused 8.
-fn append(count: usize, outcome: Outcome) -> Judged
-    ensures { λ r. ⌜ r ≡ appends count outcome ⌝ }
+fn appends(count: usize, outcome: Outcome) -> Judged
+    ensures { λ r. ⌜ r ≡ appends· count outcome ⌝ }
 {
     if TUPLES <= count {
         return refused(Refusal::Full);

@@ -80,7 +80,7 @@ pub(crate) fn strike_proposer(
     let second = tuple.fields[1];
     let third = tuple.fields[2];
     let process = third.value;
-    // most tuples are of another round
+    // Most tuples are of another round.
     if second.value != round {
         return set;
     }

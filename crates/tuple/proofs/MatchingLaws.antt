@@ -13,7 +13,7 @@ use Rattle.tuple.specs.declared.matching.Found.{Found}
 use Rattle.tuple.specs.declared.matching.Found.the-variants.{At, Nowhere}
 use Rattle.tuple.specs.declared.matching.Matched.{Matched}
 use Rattle.tuple.specs.Fields.{places, blankField, blankTuple}
-use Rattle.tuple.specs.Matching.{fieldMatches, fieldsMatch, matches, oldestFrom, oldestOf, tupleAt, oldestIn}
+use Rattle.tuple.specs.Matching.{fieldMatches, fieldsMatch, matches, oldestFrom, oldestOf, foundTuple, matchedOf}
 use Rattle.tuple.proofs.Lists.{drop-take-step, drop-take-end}
 
 -- ---- field by field
@@ -67,9 +67,9 @@ abbrev matched : Found → Tuple → Matched
 matched found tuple = record { found = found; tuple = tuple }
 
 abbrev matchedIn : List Tuple → Found → Matched
-matchedIn tuples found = matched found (tupleAt tuples found)
+matchedIn tuples found = matched found (foundTuple tuples found)
 
--- inside a list it does not matter what it gives outside
+-- inside a list `getD` gives the same, whatever it gives outside
 getD-inside : (tuples : List Tuple) (i : ℕ) (one other : Tuple) → i < length tuples → getD tuples i one ≡ getD tuples i other
 getD-inside tuples i one other h = head-eq-of-cons-eq (sym (drop-cons tuples i one h) ∙ drop-cons tuples i other h)
 
@@ -87,7 +87,7 @@ module _ (count : ℕ) (tuples : List Tuple) (template : Tuple) (i : ℕ) (other
   found-here below inside e = rw e at (oldest-step below inside)
 
   pub matched-here : i < count → i < length tuples → matches template (getD tuples i other) ≡ true
-      → matched (At i) (getD tuples i other) ≡ oldestIn (take count tuples) template
+      → matched (At i) (getD tuples i other) ≡ matchedOf (take count tuples) template
   matched-here below inside e =
       ap (matched (At i)) (held-tuple count tuples i other below inside) ∙ ap (matchedIn (take count tuples)) (found-here below inside e)
 
@@ -98,5 +98,5 @@ module _ (count : ℕ) (tuples : List Tuple) (template : Tuple) (i : ℕ) (other
   unfolding oldestFrom
   found-nowhere h = sym (ap (λ (l : List Tuple). oldestFrom i l template) (drop-take-end count tuples i h)) ∙ passed
 
-  pub matched-nowhere : min count (length tuples) ≤ i → (blank : Tuple) → blank ≡ blankTuple → matched Nowhere blank ≡ oldestIn (take count tuples) template
+  pub matched-nowhere : min count (length tuples) ≤ i → (blank : Tuple) → blank ≡ blankTuple → matched Nowhere blank ≡ matchedOf (take count tuples) template
   matched-nowhere h blank is-blank = ap (matched Nowhere) is-blank ∙ ap (matchedIn (take count tuples)) (found-nowhere h)

@@ -38,10 +38,10 @@ unfoldable pub oldestOf : List Tuple → Tuple → Found
 oldestOf tuples template = oldestFrom 0 tuples template
 
 -- the tuple at a place found, blank where there is none
-abbrev pub tupleAt : List Tuple → Found → Tuple
-tupleAt tuples (At i) = getD tuples i blankTuple
-tupleAt tuples Nowhere = blankTuple
+abbrev pub foundTuple : List Tuple → Found → Tuple
+foundTuple tuples (At i) = getD tuples i blankTuple
+foundTuple tuples Nowhere = blankTuple
 
 -- where the oldest that matches stands, and that tuple
-abbrev pub oldestIn : List Tuple → Tuple → Matched
-oldestIn tuples template = record { found = oldestOf tuples template; tuple = tupleAt tuples (oldestOf tuples template) }
+abbrev pub matchedOf : List Tuple → Tuple → Matched
+matchedOf tuples template = record { found = oldestOf tuples template; tuple = foundTuple tuples (oldestOf tuples template) }

@@ -2,7 +2,7 @@
 ghost use mathlib.Core.Path.{_≡_};
 ghost use Prim.Native.Nat.{min};
 ghost use lib.ListN.{take};
-ghost use Rattle.tuple.specs.Matching.{fieldMatches, matches, oldestIn};
+ghost use Rattle.tuple.specs.Matching.{fieldMatches, matches, matchedOf};
 use crate::field::DEFINED;
 use crate::field::FIELDS;
 use crate::field::Field;
@@ -23,7 +23,7 @@ pub struct Matched {
 
 // The oldest of the first `count` tuples that matches the template.
 pub fn oldest(tuples: [Tuple; TUPLES], count: usize, template: Tuple) -> Matched
-    ensures { λ r. ⌜ r ≡ oldestIn (take count tuples) template ⌝ }
+    ensures { λ r. ⌜ r ≡ matchedOf (take count tuples) template ⌝ }
 {
     let held = least(count, TUPLES);
     let wanted = template.count;

@@ -34,7 +34,8 @@ pub enum Written {
     NoRoom,
 }
 
-// The number that stands at a place of s. Most are of one byte, which is looked at here so that they take no recursive call.
+// The number that stands at a place of s. Most are of one byte, and are read here, without a call of the
+// function that calls itself.
 pub fn read(s: &[u8], at: usize) -> Number
     ensures { λ r. ⌜ r ≡ numberAt (now (s .entry)) at ⌝ }
 {

@@ -1,4 +1,5 @@
-//! The proved library and the plain Rust version side by side: same inputs, interleaved, medians of many rounds.
+//! The proved library and the plain Rust version side by side: same inputs, interleaved, medians of many rounds. The plain version tests
+//! the whole board at every call; the proved one does where a space is handed in from elsewhere (`board_apply`).
 //!
 //!     bench [the proved program board] [the Rust program board]
 //!
@@ -92,8 +93,24 @@ fn choice(round: u64, k: u32) -> i32 {
     (k as i32 + round as i32) % (round as i32 + 1) * 50 - 100
 }
 
+/// Makes a call on a space that is well formed all along.
+fn judged(space: &mut sys::Space, call: &sys::Call) -> sys::Reply {
+    let judged = sys::judge(space, call);
+    if judged.change != 0 {
+        *space = sys::carry_out(space, &call.entry, judged.change, judged.at);
+    }
+    judged.reply
+}
+
+/// Makes a call on a space that is tested first.
+fn applied(space: &mut sys::Space, call: &sys::Call) -> sys::Reply {
+    let applied = sys::apply(*space, *call);
+    *space = applied.space;
+    applied.reply
+}
+
 /// Eight rounds in which all fifteen follow; how many calls were made.
-fn rounds_ours() -> usize {
+fn rounds_ours(make: impl Fn(&mut sys::Space, &sys::Call) -> sys::Reply) -> usize {
     let config = flat::config(&FULL);
     let mut space = sys::fresh(config).space;
     let mut calls = 0;
@@ -103,11 +120,8 @@ fn rounds_ours() -> usize {
         while steps.iter().any(|step| step.next == 0) {
             for step in &mut steps {
                 if step.next == 0 {
-                    let judged = sys::judge(&space, &step.call);
-                    if judged.change != 0 {
-                        space = sys::carry_out(&space, &step.call.entry, judged.change, judged.at);
-                    }
-                    *step = sys::resume(step.process, judged.reply);
+                    let reply = make(&mut space, &step.call);
+                    *step = sys::resume(step.process, reply);
                     calls += 1;
                 }
             }
@@ -248,9 +262,11 @@ fn main() {
     line("a  reading 1,000 records", medians(301, || read_ours(&bytes), || read_plain(&bytes)));
 
     let calls = rounds_plain();
-    assert_eq!(rounds_ours(), calls);
-    let rounds = medians(41, || _ = black_box(rounds_ours()), || _ = black_box(rounds_plain()));
+    assert_eq!((rounds_ours(judged), rounds_ours(applied)), (calls, calls));
+    let rounds = medians(41, || _ = black_box(rounds_ours(judged)), || _ = black_box(rounds_plain()));
     line(&format!("b  eight rounds, n = 15, t = 4, all follow: {calls} calls"), rounds);
+    let tested = medians(41, || _ = black_box(rounds_ours(applied)), || _ = black_box(rounds_plain()));
+    line("   the same by board_apply, which tests each space", tested);
 
     let long = long_script();
     let (mut text, mut other) = (vec![0; 2_000_000], vec![0; 2_000_000]);

@@ -163,38 +163,45 @@ pub fn spoil_tuple(dice: &mut Dice, tuple: &mut Tuple, part: u64) {
 
 // ---- the comparisons
 
-/// A call on a board, by both: the answer and the whole board afterwards must be equal, also when the call is judged and carried out.
+/// A call on a board, by both: the answer and the whole board afterwards must be equal.
 pub fn compare_call(board: &mut Board, call: &Call) -> Answer {
     let before = board.clone();
     let ours = sys::apply(flat::space(&before), flat::call(call));
-    let (judged, carried) = judge(&before, call);
     let answer = Answer::from(board.call(call));
     let expected = sys::Applied { reply: flat::reply(&answer), space: flat::space(board) };
     if ours != expected {
         panic!("{call:?}\non {before:?}\nproved {ours:?}\nplain {expected:?}");
     }
-    if before.check().is_ok() {
-        assert!(
-            judged.reply == expected.reply && carried == expected.space,
-            "{call:?}\non {before:?}\njudged {judged:?}"
-        );
-    } else if before.config.check().is_err() || before.count > TUPLES {
-        assert!(
-            judged.reply == expected.reply && judged.change == 0,
-            "{call:?}\non {before:?}\njudged {judged:?}"
-        );
-    }
+    compare_judged(&before, call);
     answer
 }
 
-/// A call judged and carried out.
-fn judge(board: &Board, call: &Call) -> (sys::Judged, sys::Space) {
-    let (space, call) = (flat::space(board), flat::call(call));
-    let judged = sys::judge(&space, &call);
-    (judged, sys::carry_out(&space, &call.entry, judged.change, judged.at))
+/// The same call judged and carried out. The places are not tested, and what stands behind the tuples held does not matter: the answer and
+/// the tuples held are those of the board with nothing behind them, if that is well formed.
+fn compare_judged(before: &Board, call: &Call) {
+    let (space, flat_call) = (flat::space(before), flat::call(call));
+    let judged = sys::judge(&space, &flat_call);
+    let carried = sys::carry_out(&space, &flat_call.entry, judged.change, judged.at);
+    let context = || format!("{call:?}\non {before:?}\njudged {judged:?}\ncarried out {carried:?}");
+    assert!(judged.change == 2 || judged.at == 0, "{}", context());
+    if before.config.check().is_err() || before.count > TUPLES {
+        let refused = flat::reply(&Answer::from(Refusal::Unsound));
+        assert!(judged.reply == refused && judged.change == 0, "{}", context());
+        return;
+    }
+    let mut tidy = before.clone();
+    tidy.tuples[before.count..].fill(Tuple::BLANK);
+    if tidy.check().is_ok() {
+        let answer = Answer::from(tidy.call(call));
+        let expected = flat::space(&tidy);
+        assert!(judged.reply == flat::reply(&answer), "{}", context());
+        assert!(carried.count == expected.count, "{}", context());
+        assert!(carried.tuples[..carried.count] == expected.tuples[..carried.count], "{}", context());
+        assert!(before.check().is_err() || carried == expected, "{}", context());
+    }
 }
 
-/// A change carried out on any board: an entry that has no room, and a place that holds no tuple, change nothing.
+/// A change carried out on any board: an entry that has no room, a place that holds no tuple and a count above 128 change nothing.
 pub fn compare_change(board: &Board, entry: &Tuple, change: u8, at: usize) {
     let before = flat::space(board);
     let mut expected = before;
@@ -208,10 +215,8 @@ pub fn compare_change(board: &Board, entry: &Tuple, change: u8, at: usize) {
         expected.count -= 1;
         expected.tuples[expected.count] = sys::Tuple::default();
     }
-    assert!(
-        sys::carry_out(&before, &flat::tuple(entry), change, at) == expected,
-        "{change} {at} on {board:?}"
-    );
+    let ours = sys::carry_out(&before, &flat::tuple(entry), change, at);
+    assert!(ours == expected, "{change} {at} {entry:?}\non {board:?}\nproved {ours:?}");
 }
 
 /// Writing a call's record, by both: the length or refusal and the whole buffer.

@@ -1,7 +1,7 @@
 -- `board_c::board_carry_out` meets its contract: what the library's `carry_out` answers to the change of these numbers.
 use borrow.Author.Needs.{needs}
 use mathlib.Core.Path.{ap, _∙_}
-use Rattle.space.specs.Judging.{carriedOut}
+use Rattle.space.specs.Changes.{carriedOut}
 use Rattle.board_c.proofs.board_carry_out.Statement.{statement}
 use Rattle.board_c.proofs.board_carry_out.Tie as tie
 

@@ -2,7 +2,7 @@
 use borrow.Author.Needs.{needs}
 use mathlib.Core.Path.{sym, ap, _∙_}
 use borrow.Author.Tests.{lt-ltb, le-ltb, le-leb, lt-leb}
-use Rattle.space.specs.Judging.{carriedOut}
+use Rattle.space.specs.Changes.{carriedOut}
 use Rattle.tuple.specs.Fields.{capacity}
 use Rattle.space.proofs.change.carry_out.Statement.{statement}
 use Rattle.space.proofs.change.carry_out.Tie as tie

@@ -3,10 +3,10 @@ use borrow.Author.Needs.{needs}
 use mathlib.Core.Path.{_≡_, sym, ap, _∙_}
 use Rattle.space.specs.declared.judging.Judged.{Judged}
 use Rattle.space.specs.declared.space.Space.{Space}
-use Rattle.space.specs.Judging.{judgedBy, judged, firstRefusal}
+use Rattle.space.specs.Judging.{judgedBy, judged}
 use Rattle.space.specs.Spaces.{held}
 use Rattle.space.specs.Turns.{verdictStep}
-use Rattle.space.proofs.JudgeLaws.{answered-first}
+use Rattle.space.proofs.JudgingLaws.{bounded-first}
 use Rattle.tuple.specs.declared.fault.Fault.{Fault}
 use Rattle.tuple.specs.declared.field.Call.{Call}
 use Rattle.space.proofs.judging.judge.Statement.{statement}
@@ -19,7 +19,7 @@ met : (c : tie.After-first-refusal) → let a = c .before .args in judged (a .sp
 unfolding judged
 met c =
     let a = c .before .args in
-    ap (judgedBy (held (a .space)) (a .call)) (answered-first (a .space) (a .call)) ∙ ap (by (a .space) (a .call)) (sym (c .first-refusal .ensures))
+    ap (judgedBy (held (a .space)) (a .call)) (bounded-first (a .space) (a .call)) ∙ ap (by (a .space) (a .call)) (sym (c .first-refusal .ensures))
 
 first-refusal-requires : tie.Need-first-refusal-requires
 first-refusal-requires c κs = search needs

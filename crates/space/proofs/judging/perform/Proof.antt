@@ -5,12 +5,12 @@ use lib.ListN.{length}
 use Rattle.space.specs.declared.change.Change.the-variants.{Keep}
 use Rattle.space.specs.Spaces.{held}
 use Rattle.space.proofs.Lengths.{full}
-use Rattle.space.proofs.JudgeLaws.{answer, out-puts, rdp-found, inp-found, cas-found, rdp-none, inp-none, cas-puts}
+use Rattle.space.proofs.JudgingLaws.{answer, out-puts, rdp-found, inp-found, cas-found, rdp-none, inp-none, cas-puts}
 use Rattle.tuple.specs.declared.matching.Found.the-variants.{At, Nowhere}
 use Rattle.tuple.specs.declared.matching.Matched.{Matched}
 use Rattle.tuple.specs.declared.reply.Outcome.the-variants.{Found, Held}
 use Rattle.tuple.specs.Fields.{capacity}
-use Rattle.tuple.specs.Matching.{oldestOf, tupleAt}
+use Rattle.tuple.specs.Matching.{oldestOf, foundTuple}
 use Rattle.space.proofs.judging.perform.Statement.{statement}
 use Rattle.space.proofs.judging.perform.Tie as tie
 
@@ -21,7 +21,7 @@ long c = full (c .args .space) _ (c .good .0)
 abbrev asked : tie.After-oldest → tie.Start
 asked c = c .before .before .before .before
 
-beside : (c : tie.After-oldest) → let a = asked c .args in c .oldest .result .tuple ≡ tupleAt (held (a .space)) (oldestOf (held (a .space)) (a .call .template))
+beside : (c : tie.After-oldest) → let a = asked c .args in c .oldest .result .tuple ≡ foundTuple (held (a .space)) (oldestOf (held (a .space)) (a .call .template))
 beside c = ap (λ (m : Matched). m .tuple) (c .oldest .ensures)
 
 -- where the oldest match stands
@@ -38,13 +38,13 @@ sought c = c .before .before .before
 nowhere : (c : tie.After-enum-told) → let a = asked (sought c) .args in oldestOf (held (a .space)) (a .call .template) ≡ Nowhere
 nowhere c = sym (ap (λ (m : Matched). m .found) (sought c .oldest .ensures)) ∙ c .enum-told .given .1
 
-append-requires : tie.Need-append-requires
-append-requires c κs = search needs
+appends-requires : tie.Need-appends-requires
+appends-requires c κs = search needs
 
 returns : tie.Need-returns
 returns c =
     let s = c .before .before .before in
-    c .append .ensures ∙ out-puts (s .args .space) (long s) (s .args .call) (c .before .if1 .taken)
+    c .appends .ensures ∙ out-puts (s .args .space) (long s) (s .args .call) (c .before .if1 .taken)
 
 oldest-requires : tie.Need-oldest-requires
 oldest-requires c κs = search needs
@@ -99,8 +99,8 @@ returns-5 c =
     let s = asked o in
     c .answered5 .ensures ∙ inp-none (s .args .space) (long s) (s .args .call) _ (beside o) (nowhere n) (c .before .if5 .taken)
 
-append-requires-2 : tie.Need-append-requires-2
-append-requires-2 c κs = search needs
+appends-requires-2 : tie.Need-appends-requires-2
+appends-requires-2 c κs = search needs
 
 returns-6 : tie.Need-returns-6
 returns-6 c =
@@ -118,13 +118,13 @@ returns-7 c =
     let n = e .before in
     let o = sought n in
     let s = asked o in
-    c .append2 .ensures ∙ cas-puts (s .args .space) (long s) (s .args .call) (nowhere n) (o .before .before .if1 .left) (e .if4 .left) (c .before .if5 .left)
+    c .appends2 .ensures ∙ cas-puts (s .args .space) (long s) (s .args .call) (nowhere n) (o .before .before .if1 .left) (e .if4 .left) (c .before .if5 .left)
 
 pub perform-spec : {M : Type 1} → statement M
 perform-spec =
     tie.close
     (tie.spec
-    append-requires
+    appends-requires
     returns
     oldest-requires
     enum-known-found
@@ -138,6 +138,6 @@ perform-spec =
     returns-4
     answered-requires-5
     returns-5
-    append-requires-2
+    appends-requires-2
     returns-6
     returns-7)

@@ -6,10 +6,10 @@ use borrow.Author.Tests.{not-true, not-false}
 use Rattle.space.specs.declared.judging.Judged.{Judged}
 use Rattle.space.specs.declared.space.Applied.{Applied}
 use Rattle.space.specs.declared.space.Space.{Space}
-use Rattle.space.specs.Judging.{carriedOut}
+use Rattle.space.specs.Changes.{carriedOut}
 use Rattle.space.specs.Spaces.{wellFormed}
 use Rattle.space.specs.Turns.{applied}
-use Rattle.space.proofs.JudgeLaws.{judge-rule}
+use Rattle.space.proofs.JudgingLaws.{judge-rule}
 use Rattle.space.proofs.Lengths.{typed}
 use Rattle.space.proofs.SpaceRules.{formed-same}
 use Rattle.space.proofs.turn.apply.Statement.{statement}

@@ -13,12 +13,13 @@ use Rattle.space.specs.declared.judging.Judged.{Judged}
 use Rattle.space.specs.declared.space.Applied.{Applied}
 use Rattle.space.specs.declared.space.Space.{Space}
 use Rattle.space.specs.Calls.{inserted, rdpEffect, inpEffect, casEffect, effect}
-use Rattle.space.specs.Judging.{changeOf, judgedBy, bounded, answered, judged, firstRefusal, appends, carriedOut}
-use Rattle.space.specs.Laws.{Standing, JudgeRule}
+use Rattle.space.specs.Changes.{carriedOut}
+use Rattle.space.specs.Judging.{changeBy, judgedBy, bounded, boundedStep, judged, firstRefusal, appends}
+use Rattle.space.specs.Laws.{Tidy, JudgeRule}
 use Rattle.space.specs.Policies.{verdict}
 use Rattle.space.specs.Spaces.{held, wellFormed}
 use Rattle.space.specs.Turns.{performed, verdictStep, callStep, faultStep, applied}
-use Rattle.space.proofs.ChangeLaws.{append-standing, remove-standing}
+use Rattle.space.proofs.ChangeLaws.{tidy-count, append-tidy, remove-tidy}
 use Rattle.space.proofs.SpaceRules.{formed-sound, formed-few}
 use Rattle.tuple.specs.declared.fault.Fault.{Fault}
 use Rattle.tuple.specs.declared.fault.Fault.the-variants.{Absent, Present}
@@ -30,7 +31,7 @@ use Rattle.tuple.specs.declared.reply.Outcome.{Outcome}
 use Rattle.tuple.specs.declared.reply.Outcome.the-variants as outcome
 use Rattle.tuple.specs.Faults.{unless, first, callFault}
 use Rattle.tuple.specs.Fields.{out, rdp, inp, capacity}
-use Rattle.tuple.specs.Matching.{oldestOf, tupleAt}
+use Rattle.tuple.specs.Matching.{oldestOf, foundTuple}
 use Rattle.tuple.specs.Refusals.{refusal}
 use Rattle.tuple.proofs.MatchRules.{oldest-rule}
 
@@ -49,9 +50,9 @@ module _ (space : Space) (call : Call) where
   fault-first Absent = call-first
   fault-first (Present why) = refl
 
-  pub answered-first : answered space call ≡ verdictStep space call (firstRefusal space call)
+  pub bounded-first : boundedStep space call ≡ verdictStep space call (firstRefusal space call)
   unfolding firstRefusal
-  answered-first = cases (bounded space) (λ e. rw e (fault-first (callFault call))) (λ e. rw e)
+  bounded-first = cases (bounded space) (λ e. rw e (fault-first (callFault call))) (λ e. rw e)
 
 -- ---- the reply and the change
 
@@ -62,7 +63,7 @@ module _ (space : Space) (long : length (space .tuples) ≡ capacity) (call : Ca
   abbrev Obeyed : Judged → Type 0
   Obeyed done = done ≡ judgedBy (held space) call (performed (space .config) (effect (held space) call))
 
-  put : (how : Outcome) → changeOf (held space) call how ≡ Append
+  put : (how : Outcome) → changeBy (held space) call how ≡ Append
       → appends (space .count) how ≡ judgedBy (held space) call (performed (space .config) (inserted how (held space) (call .entry)))
   put how change =
       cases (ltb (space .count) capacity)
@@ -73,7 +74,7 @@ module _ (space : Space) (long : length (space .tuples) ≡ capacity) (call : Ca
   unfolding effect
   out-puts e = put outcome.Done refl ∙ sym (rw e)
 
-  module _ (tuple : Tuple) (is : tuple ≡ tupleAt (held space) (oldestOf (held space) (call .template))) where
+  module _ (tuple : Tuple) (is : tuple ≡ foundTuple (held space) (oldestOf (held space) (call .template))) where
     module _ (i : ℕ) (at : oldestOf (held space) (call .template) ≡ At i) where
       pub rdp-found : call .code ≡ rdp → Obeyed (answer outcome.Found tuple Keep)
       unfolding effect
@@ -107,38 +108,35 @@ module _ (space : Space) (long : length (space .tuples) ≡ capacity) (call : Ca
 
 -- ---- on a well-formed space
 
-module _ (space : Space) (call : Call) (standing : Standing space) (formed : wellFormed space ≡ true) where
+module _ (space : Space) (call : Call) (tidy : Tidy space) (formed : wellFormed space ≡ true) where
   -- the space that an answer leaves is the one that the change makes
   abbrev Carried : Applied → Type 0
-  Carried done = done .space ≡ carriedOut space (call .entry) (changeOf (held space) call (done .reply .outcome))
+  Carried done = done .space ≡ carriedOut space (call .entry) (changeBy (held space) call (done .reply .outcome))
 
-  counted : length (held space) ≡ space .count
-  counted = ap (λ (s : Space). s .count) standing
-
-  put-carried : (how : Outcome) → changeOf (held space) call how ≡ Append → Carried (performed (space .config) (inserted how (held space) (call .entry)))
+  put-carried : (how : Outcome) → changeBy (held space) call how ≡ Append → Carried (performed (space .config) (inserted how (held space) (call .entry)))
   unfolding carriedOut
   put-carried how change =
       cases (ltb (length (held space)) capacity)
-      (λ e. let room : space .count < capacity = omega (arith, counted, ltb-true (length (held space)) capacity e) in
-      rw (e, change, lt-ltb (space .count) capacity room) (append-standing space standing room (call .entry)))
-      (λ e. rw e standing)
+      (λ e. let room : space .count < capacity = omega (arith, tidy-count space tidy, ltb-true (length (held space)) capacity e) in
+      rw (e, change, lt-ltb (space .count) capacity room) (append-tidy space tidy room (call .entry)))
+      (λ e. rw e tidy)
 
   inp-carried : call .code ≡ inp → (found : Found) → oldestOf (held space) (call .template) ≡ found
       → Carried (performed (space .config) (inpEffect (held space) found))
   unfolding carriedOut
   inp-carried e (At i) at =
-      let inside : i < space .count = omega (arith, counted, oldest-rule .at (held space) (call .template) i .0 at .0) in
-      rw (e, at, le-leb (space .count) capacity (formed-few space formed), lt-ltb i (space .count) inside) (remove-standing space standing i inside (formed-few space formed))
-  inp-carried e Nowhere at = standing
+      let inside : i < space .count = omega (arith, tidy-count space tidy, oldest-rule .at (held space) (call .template) i .0 at .0) in
+      rw (e, at, le-leb (space .count) capacity (formed-few space formed), lt-ltb i (space .count) inside) (remove-tidy space tidy i inside (formed-few space formed))
+  inp-carried e Nowhere at = tidy
 
   rdp-carried : call .code ≡ rdp → (found : Found) → Carried (performed (space .config) (rdpEffect (held space) found))
   unfolding carriedOut
-  rdp-carried e (At i) = rw e standing
-  rdp-carried e Nowhere = standing
+  rdp-carried e (At i) = rw e tidy
+  rdp-carried e Nowhere = tidy
 
   cas-carried : (found : Found) → Carried (performed (space .config) (casEffect (held space) (call .entry) found))
   unfolding carriedOut
-  cas-carried (At i) = standing
+  cas-carried (At i) = tidy
   cas-carried Nowhere = put-carried outcome.Inserted refl
 
   effect-carried : Carried (performed (space .config) (effect (held space) call))
@@ -169,14 +167,14 @@ module _ (space : Space) (call : Call) (standing : Standing space) (formed : wel
 
 abbrev both : Space → Call → Applied → Applied
 both space call done =
-    record { reply = done .reply; space = carriedOut space (call .entry) (changeOf (held space) call (done .reply .outcome)) }
+    record { reply = done .reply; space = carriedOut space (call .entry) (changeBy (held space) call (done .reply .outcome)) }
 
 pub judge-rule : JudgeRule
 unfolding applied judged
-judge-rule space call standing formed =
+judge-rule space call tidy formed =
     let done = faultStep space call (callFault call) in
     let obeyed : applied space call ≡ done = rw formed in
-    let asked : answered space call ≡ done = rw (formed-sound space formed, le-leb (space .count) capacity (formed-few space formed)) in
+    let asked : boundedStep space call ≡ done = rw (formed-sound space formed, le-leb (space .count) capacity (formed-few space formed)) in
     obeyed
-    ∙ ap {B = Applied} (λ (s : Space). record { reply = done .reply; space = s }) (fault-carried space call standing formed (callFault call))
+    ∙ ap {B = Applied} (λ (s : Space). record { reply = done .reply; space = s }) (fault-carried space call tidy formed (callFault call))
     ∙ ap (both space call) (sym asked)

@@ -1,13 +1,13 @@
--- `space::judging::append` meets its contract: there is room, or there is not.
+-- `space::judging::appends` meets its contract: there is room, or there is not.
 use borrow.Author.Needs.{needs}
 use mathlib.Core.Path.{_≡_, sym, ap, _∙_}
 use borrow.Author.Tests.{lt-ltb, le-ltb}
 use Rattle.space.specs.declared.change.Change.the-variants.{Append}
-use Rattle.space.proofs.JudgeLaws.{answer}
+use Rattle.space.proofs.JudgingLaws.{answer}
 use Rattle.tuple.specs.declared.field.Tuple.{Tuple}
 use Rattle.tuple.specs.Fields.{capacity}
-use Rattle.space.proofs.judging.append.Statement.{statement}
-use Rattle.space.proofs.judging.append.Tie as tie
+use Rattle.space.proofs.judging.appends.Statement.{statement}
+use Rattle.space.proofs.judging.appends.Tie as tie
 
 refused-requires : tie.Need-refused-requires
 refused-requires c κs = search needs
@@ -30,5 +30,5 @@ returns-2 c =
     ∙ ap (λ (tuple : Tuple). answer (a .outcome) tuple Append) (c .before .blank .ensures)
     ∙ sym (rw (lt-ltb (a .count) capacity (e .if1 .left)))
 
-pub append-spec : {M : Type 1} → statement M
-append-spec = tie.close (tie.spec refused-requires returns blank-requires answered-requires returns-2)
+pub appends-spec : {M : Type 1} → statement M
+appends-spec = tie.close (tie.spec refused-requires returns blank-requires answered-requires returns-2)

@@ -30,7 +30,7 @@ sub-groups-from : tie.Need-sub-groups-from
 sub-groups-from c = search needs
 
 groups-from-requires : tie.Need-groups-from-requires
-groups-from-requires c κs = search needs
+groups-from-requires c κs = omega arith
 
 returns-3 : tie.Need-returns-3
 unfolding numberAt

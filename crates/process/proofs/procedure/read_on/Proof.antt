@@ -1,6 +1,7 @@
 -- `process::procedure::read_on` meets its contract: its test is the definition's.
 use borrow.Author.Needs.{needs}
-use mathlib.Core.Path.{sym, _∙_}
+use mathlib.Core.Path.{_≡_, sym, _∙_}
+use Rattle.process.specs.Tallies.{backed}
 use Rattle.process.proofs.StateSteps.{sound-range}
 use Rattle.process.proofs.procedure.read_on.Statement.{statement}
 use Rattle.process.proofs.procedure.read_on.Tie as tie
@@ -22,7 +23,10 @@ reads-requires c κs = search needs
 
 returns : tie.Need-returns
 returns c =
-    let t = c .before .before in rw (c .casts .ensures, c .before .backed .ensures, sym (t .before .settled .ensures) ∙ t .if1 .taken)
+    let t = c .before .before in
+    let a = t .before .before .before .args in
+    let value : c .before .backed .result ≡ backed (a .process .config .t) (a .found) = c .before .backed .ensures in
+    rw (c .casts .ensures, value, sym (t .before .settled .ensures) ∙ t .if1 .taken)
 
 returns-2 : tie.Need-returns-2
 returns-2 c =

@@ -1,6 +1,7 @@
 -- `process::process::startable` meets its contract: its tests are the definition's.
 use borrow.Author.Needs.{needs}
-use mathlib.Core.Path.{sym, _∙_}
+use mathlib.Core.Path.{_≡_, refl, sym, _∙_}
+use lib.Dec.{eqb}
 use Rattle.process.specs.States.{startable}
 use Rattle.process.proofs.process.startable.Statement.{statement}
 use Rattle.process.proofs.process.startable.Tie as tie
@@ -10,7 +11,11 @@ is-sound-requires c κs = search needs
 
 returns : tie.Need-returns
 unfolding startable
-returns c = rw (sym (c .before .before .is-sound .ensures) ∙ c .before .if1 .taken)
+returns c =
+    let s = c .before .before in
+    let policy = s .before .args .config .policy in
+    let same : eqb policy 2 ≡ eqb policy 2 = refl in
+    rw (sym (s .is-sound .ensures) ∙ c .before .if1 .taken) same
 
 returns-2 : tie.Need-returns-2
 unfolding startable

@@ -1,8 +1,8 @@
 -- `space::judging::refused` meets its contract: a blank tuple beside the refusal.
 use borrow.Author.Needs.{needs}
-use mathlib.Core.Path.{ap, _∙_}
+use mathlib.Core.Path.{_≡_, ap, _∙_}
 use Rattle.space.specs.declared.change.Change.the-variants.{Keep}
-use Rattle.space.specs.declared.judging.Judged.{Judged}
+use Rattle.space.proofs.JudgingLaws.{answer}
 use Rattle.tuple.specs.declared.field.Tuple.{Tuple}
 use Rattle.tuple.specs.declared.reply.Outcome.the-variants.{Refused}
 use Rattle.space.proofs.judging.refused.Statement.{statement}
@@ -17,8 +17,8 @@ answered-requires c κs = search needs
 returns : tie.Need-returns
 returns c =
     let a = c .before .before .args in
-    c .answered .ensures
-    ∙ ap {B = Judged} (λ (tuple : Tuple). record { reply = record { outcome = Refused (a .refusal); tuple = tuple }; change = Keep }) (c .before .blank .ensures)
+    let said : c .answered .result ≡ answer (Refused (a .refusal)) (c .before .blank .result) Keep = c .answered .ensures in
+    said ∙ ap (λ (tuple : Tuple). answer (Refused (a .refusal)) tuple Keep) (c .before .blank .ensures)
 
 pub refused-spec : {M : Type 1} → statement M
 refused-spec = tie.close (tie.spec blank-requires answered-requires returns)

@@ -1,7 +1,8 @@
 -- `space::shape::is_proposal` meets its contract: its tests are the definition's.
 use borrow.Author.Needs.{needs}
-use mathlib.Core.Path.{_∙_}
-use Rattle.space.specs.Shapes.{isProposal}
+use mathlib.Core.Path.{_≡_, _∙_}
+use Rattle.space.specs.Shapes.{field, says, isProposal}
+use Rattle.tuple.specs.Fields.{word, propose}
 use Rattle.space.proofs.shape.is_proposal.Statement.{statement}
 use Rattle.space.proofs.shape.is_proposal.Tie as tie
 
@@ -36,7 +37,8 @@ returns : tie.Need-returns
 unfolding isProposal
 returns c =
     let s = c .before .before .before .before in
-    c .all-five .ensures ∙ cc (s .says .ensures, c .before .before .before .is .ensures, c .before .before .is2 .ensures, c .before .is3 .ensures)
+    let said : s .says .result ≡ says word propose (field (s .before .before .before .before .before .args .t1) 0) = s .says .ensures in
+    c .all-five .ensures ∙ cc (said, c .before .before .before .is .ensures, c .before .before .is2 .ensures, c .before .is3 .ensures)
 
 pub is-proposal-spec : {M : Type 1} → statement M
 is-proposal-spec =

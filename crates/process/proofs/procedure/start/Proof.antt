@@ -3,6 +3,7 @@ use borrow.Author.Needs.{needs}
 use mathlib.Core.Path.{_≡_, sym, ap, _∙_}
 use mathlib.Core.Bool.{true}
 use borrow.Author.Tests.{lt-ltb, le-ltb, not-true, not-false}
+use Rattle.process.specs.Asks.{outCall}
 use Rattle.process.specs.Procedure.{started}
 use Rattle.process.specs.States.{startable, known}
 use Rattle.process.proofs.OffsetSteps.{coded-proposable, coded-beyond, coded-bottom}
@@ -99,7 +100,9 @@ returns-6 c =
     let r = k .before .before .before .before in
     let m = r .before in
     let offset = coded-proposable _ _ (coded k) (c .before .if4 .left) in
-    rw (c .out-call .ensures, able (m .before .before), member m, in-rounds r, offset .0, offset .1)
+    let a = m .before .before .before .before .args in
+    let call : c .out-call .result ≡ outCall (a .process) (a .round) (k .before .code .given .0 .0) = c .out-call .ensures in
+    rw (call, able (m .before .before), member m, in-rounds r, offset .0, offset .1)
 
 pub start-spec : {M : Type 1} → statement M
 start-spec =

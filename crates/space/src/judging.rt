@@ -25,7 +25,7 @@ pub struct Judged {
     pub change: Change,
 }
 
-// Judges a call on a space whose tuples are taken as they are: only the configuration and how many there are are tested.
+// Judges a call on a space whose tuples are taken as they are: only the configuration and the count are tested.
 pub fn judge(space: Space, call: Call) -> Judged
     ensures { λ r. ⌜ r ≡ judged space call ⌝ }
 {

@@ -9,7 +9,7 @@ use Rattle.space.specs.declared.space.Applied.{Applied}
 use Rattle.space.specs.Calls.{effect}
 use Rattle.space.specs.Spaces.{held, spaceOf, wellFormed}
 use Rattle.space.specs.Turns.{applied}
-use Rattle.space.specs.Laws.{Denied, DeniedRule, Typed, Unchanged, Kept, Tidy, TidyRule}
+use Rattle.space.specs.Laws.{Denied, DeniedRule, Typed, Unchanged, Kept, Tidy, TidyFormed, TidyRule}
 use Rattle.space.proofs.SpaceRules.{held-of, formed-of, formed-sound, held-lawful, formed-same}
 use Rattle.space.proofs.CallSteps.{Puts, Moves, moves, moves-lawful, Steps, steps}
 use Rattle.tuple.specs.declared.field.Tuple.{Tuple}
@@ -64,6 +64,9 @@ denied-rule space call = (
 
 pub unchanged : Unchanged
 unchanged space call why typed = steps-unchanged space call why typed (steps space call)
+
+pub tidy-formed : TidyFormed
+tidy-formed space typed formed = formed-same space formed typed
 
 pub tidy-rule : TidyRule
 tidy-rule space call tidy = steps-tidy space call tidy (steps space call)

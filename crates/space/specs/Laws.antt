@@ -172,6 +172,11 @@ WellFormedRule = (space : Space) → Typed space → (wellFormed space ≡ true)
 abbrev pub Tidy : Space → Type 0
 Tidy space = spaceOf (space .config) (held space) ≡ space
 
+-- each well-formed space that the struct's types can hold is
+abbrev pub TidyFormed : Type 0
+TidyFormed = (space : Space) → Typed space → wellFormed space ≡ true → Tidy space
+
+-- and what a call leaves of one
 abbrev pub TidyRule : Type 0
 TidyRule = (space : Space) (call : Call) → Tidy space → Tidy (applied space call .space)
 

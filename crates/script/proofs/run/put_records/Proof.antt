@@ -13,8 +13,8 @@ use Rattle.record.proofs.WrittenLaws.{wrote-then, wrote-length}
 use Rattle.space.specs.declared.space.Space.{Space}
 use Rattle.space.specs.Changes.{carriedOut}
 use Rattle.space.specs.Turns.{applied}
+use Rattle.space.proofs.CallLaws.{tidy-formed}
 use Rattle.space.proofs.Lengths.{typed}
-use Rattle.space.proofs.SpaceRules.{formed-same}
 use Rattle.script.proofs.run.put_records.Statement.{statement}
 use Rattle.script.proofs.run.put_records.Tie as tie
 
@@ -100,7 +100,7 @@ loop-holds : tie.Need-loop-holds Inv-loop μ-loop
 loop-holds c =
     let g = c .before .before in
     let formed = g .pre .1 .0 in
-    record { formed = formed; tidy = formed-same (g .args .fresh) formed (typed (g .args .fresh) _ (g .good .1 .1 .1 .1 .0)); numbered = omega arith; same = refl; behind = refl; long = refl }
+    record { formed = formed; tidy = tidy-formed (g .args .fresh) (typed (g .args .fresh) _ (g .good .1 .1 .1 .1 .0)) formed; numbered = omega arith; same = refl; behind = refl; long = refl }
 
 call-requires : tie.Need-call-requires Inv-loop μ-loop
 call-requires c κs = search needs

@@ -9,9 +9,9 @@ use Rattle.space.specs.declared.space.Space.{Space}
 use Rattle.space.specs.Changes.{carriedOut}
 use Rattle.space.specs.Spaces.{wellFormed}
 use Rattle.space.specs.Turns.{applied}
+use Rattle.space.proofs.CallLaws.{tidy-formed}
 use Rattle.space.proofs.JudgingLaws.{judge-rule}
 use Rattle.space.proofs.Lengths.{typed}
-use Rattle.space.proofs.SpaceRules.{formed-same}
 use Rattle.space.proofs.turn.apply.Statement.{statement}
 use Rattle.space.proofs.turn.apply.Tie as tie
 
@@ -45,7 +45,7 @@ returns-2 c =
     let a = s .args in
     ap {B = Applied} (λ (space : Space). record { reply = j .judge .result .reply; space = space }) (c .carry-out .ensures)
     ∙ ap {B = Applied} (λ (judged : Judged). record { reply = judged .reply; space = carriedOut (a .space) (a .call .entry) (judged .change) }) (j .judge .ensures)
-    ∙ sym (judge-rule (a .space) (a .call) (formed-same (a .space) (formed (j .before)) (typed (a .space) _ (s .good .0))) (formed (j .before)))
+    ∙ sym (judge-rule (a .space) (a .call) (tidy-formed (a .space) (typed (a .space) _ (s .good .0)) (formed (j .before))) (formed (j .before)))
 
 pub apply-spec : {M : Type 1} → statement M
 apply-spec = tie.close (tie.spec is-well-formed-requires refused-requires returns judge-requires carry-out-requires returns-2)

@@ -1,15 +1,12 @@
 //! The board: set-up, well-formedness, the four calls (01, "Calls").
 
-use crate::fields::Tuple;
+use crate::fields::{Tuple, MOST_SEATS};
 use crate::policy;
 use crate::records::{Call, Code};
 use crate::refusal::Refusal;
 
 /// Most tuples a board holds.
 pub const MOST_TUPLES: usize = 128;
-
-/// Most seats.
-pub const MOST_SEATS: usize = 15;
 
 /// A set-up as a plain value that can hold anything.
 #[derive(Clone, Copy, Debug, Default, PartialEq, Eq, Hash)]
@@ -25,9 +22,8 @@ pub struct Config {
 impl Config {
     /// Refused 1 unless n is 1 to 15, n is at least 3t + 1 and the policy is 0 to 2.
     pub fn check(&self) -> Result<(), Refusal> {
-        let seats = 1..=MOST_SEATS as u64;
         // n >= 3t + 1 without a sum that wraps: t <= (n - 1) / 3.
-        let sound = seats.contains(&self.n) && self.t <= (self.n - 1) / 3 && self.policy <= 2;
+        let sound = (1..=MOST_SEATS).contains(&self.n) && self.t <= (self.n - 1) / 3 && self.policy <= 2;
         sound.then_some(()).ok_or(Refusal::Unsound)
     }
 
@@ -279,7 +275,7 @@ mod tests {
         let mut board = Board::fresh(config(4, 1, 2)).unwrap();
         assert_eq!(obey(&mut board, good), Err(Denied));
         let mut board = bare();
-        board.count = 128;
+        board.count = MOST_TUPLES;
         board.tuples = [number(1); MOST_TUPLES];
         board.config.policy = 1;
         assert_eq!(obey(&mut board, good), Err(Denied), "7 before 8");
@@ -290,18 +286,18 @@ mod tests {
         let good = Call::rdp(1, number(1));
         let mut board = bare();
         board.count = 2;
-        board.tuples[0] = Tuple::decision(4_294_967_295, 0, 32_767);
+        board.tuples[0] = Tuple::decision(4_294_967_295, 0, Kind::Seats.last());
         board.tuples[1] = number(9);
         assert_eq!(board.check(), Ok(()));
         let spoilt: [fn(&mut Board); 9] = [
             |board| board.count = 1,
             |board| board.count = 3,
-            |board| board.count = 129,
+            |board| board.count = MOST_TUPLES + 1,
             |board| board.count = usize::MAX,
             |board| board.tuples[1].fields[0] = ANY,
             |board| board.tuples[1].fields[0].value = 1 << 32,
             |board| board.tuples[1].fields[5].value = 1,
-            |board| board.tuples[127].fields[5].value = 1,
+            |board| board.tuples[MOST_TUPLES - 1].fields[5].value = 1,
             |board| board.config.policy = 3,
         ];
         for spoil in spoilt {

@@ -10,6 +10,9 @@ use crate::refusal::Refusal;
 /// Most fields a tuple has.
 pub const MOST_FIELDS: usize = 6;
 
+/// Most seats: a set of seats has a bit for each.
+pub const MOST_SEATS: u64 = 15;
+
 /// The word that starts a proposal.
 pub const PROPOSE: u64 = 1;
 /// The word that starts a decision.
@@ -40,7 +43,7 @@ impl Kind {
             Kind::Word => 255,
             Kind::Count => u32::MAX as u64,
             Kind::Offset => Offset::LAST,
-            Kind::Seats => 32_767,
+            Kind::Seats => (1 << MOST_SEATS) - 1,
         }
     }
 

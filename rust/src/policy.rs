@@ -1,8 +1,8 @@
 //! The three policies (01, "Policies"). The board handed to `permits` is well
 //! formed and the call is sound and of a seat from 1 to n.
 
-use crate::board::{Board, MOST_SEATS};
-use crate::fields::{Field, Kind, Tuple, DECISION};
+use crate::board::Board;
+use crate::fields::{Field, Kind, Tuple, DECISION, MOST_SEATS};
 use crate::numbers::Offset;
 use crate::records::{Call, Code};
 
@@ -99,7 +99,7 @@ impl Proposals {
 
 /// The set of these seats; numbers that are no seat's are left out.
 fn set(seats: impl Iterator<Item = u64>) -> u64 {
-    seats.filter(|seat| (1..=MOST_SEATS as u64).contains(seat)).fold(0, |set, seat| set | 1 << (seat - 1))
+    seats.filter(|seat| (1..=MOST_SEATS).contains(seat)).fold(0, |set, seat| set | 1 << (seat - 1))
 }
 
 #[cfg(test)]

@@ -240,7 +240,7 @@ mod tests {
             Field::any(Kind::Offset),
             Field::open(Kind::Seats),
             Field::open(Kind::Word),
-            Field::given(Kind::Seats, 32_767),
+            Field::given(Kind::Seats, Kind::Seats.last()),
         ]);
         vec![
             Call::out(1, Tuple::proposal(0, 1, 0x50)),
@@ -325,7 +325,7 @@ mod tests {
         let mut call = good;
         call.template.fields[2].value = 9;
         assert_eq!(call.check(), Err(Shape), "the value of an open field");
-        call.entry.fields[3].value = 32_768;
+        call.entry.fields[3].value = Kind::Seats.last() + 1;
         assert_eq!(call.check(), Err(Value), "the entry before unused parts");
         call.template.fields[0].kind = 0;
         assert_eq!(call.check(), Err(Unknown), "the template before the entry");

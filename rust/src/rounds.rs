@@ -9,7 +9,7 @@
 use std::fmt::Write;
 
 use crate::board::{Answer, Board, Config};
-use crate::fields::Tuple;
+use crate::fields::{Tuple, MOST_SEATS};
 use crate::numbers::Offset;
 use crate::records::Call;
 use crate::seat::{Phase, Seat, Step};
@@ -56,7 +56,7 @@ fn cases() -> Vec<Case> {
     let stray = vec![out(4, -40), out(4, 40), cas(travelling(-40), 9), out(1, -40), cas(Offset::MARK, 15)];
     let full = |r: i64| Round {
         number: r.unsigned_abs(),
-        parts: (1..=15).map(|k| follows(((k + r) % (r + 1)) * 50 - 100)).collect(),
+        parts: (1..=MOST_SEATS as i64).map(|k| follows(((k + r) % (r + 1)) * 50 - 100)).collect(),
     };
     vec![
         Case {
@@ -90,7 +90,7 @@ fn cases() -> Vec<Case> {
             }],
         },
         Case { name: "one", n: 1, t: 0, rounds: vec![Round { number: 7, parts: vec![follows(-40)] }] },
-        Case { name: "full", n: 15, t: 4, rounds: (0..=7).map(full).collect() },
+        Case { name: "full", n: MOST_SEATS, t: 4, rounds: (0..=7).map(full).collect() },
     ]
 }
 

@@ -25,8 +25,8 @@
 //!
 //! Tests below compare this with an exhaustive search for small n.
 
-use crate::board::{Answer, AnswerKind, Config, MOST_SEATS};
-use crate::fields::Tuple;
+use crate::board::{Answer, AnswerKind, Config};
+use crate::fields::{Tuple, MOST_SEATS};
 use crate::numbers::Offset;
 use crate::policy::LAST_ROUND;
 use crate::records::Call;
@@ -57,7 +57,7 @@ pub struct Seat {
     pub phase: Phase,
     /// At place k - 1 the travelling number of the offset that seat k was
     /// found to have proposed, 0 if it was not found.
-    pub found: [u64; MOST_SEATS],
+    pub found: [u64; MOST_SEATS as usize],
 }
 
 /// What comes of handing an answer.
@@ -70,7 +70,7 @@ pub enum Step {
 }
 
 /// Nothing found.
-const NOTHING: [u64; MOST_SEATS] = [0; MOST_SEATS];
+const NOTHING: [u64; MOST_SEATS as usize] = [0; MOST_SEATS as usize];
 
 impl Seat {
     /// Starts a seat in one round with the offset it chose (its travelling
@@ -408,7 +408,7 @@ mod tests {
             Tuple::decision(2, 9, 1),
             Tuple::decision(3, 200_002, 1),
             Tuple::decision(3, 9, 0b1_0000),
-            Tuple::decision(3, 9, 32_768),
+            Tuple::decision(3, 9, Kind::Seats.last() + 1),
             Tuple::decision_template(3),
         ] {
             assert!(!fits(&deciding, &Answer::held(tuple)));
@@ -444,7 +444,7 @@ mod tests {
             states.push(Seat { phase: Phase::Reading(asked), ..reading });
         }
         states.push(reading.with(5, 9));
-        states.push(reading.with(15, 9));
+        states.push(reading.with(MOST_SEATS as u32, 9));
         states.push(reading.with(3, 200_002));
         states.push(reading.with(3, 9));
         for state in states {

@@ -5,12 +5,8 @@
 
 #![allow(unsafe_code)]
 
-/// Most tuples a space holds.
-pub const TUPLES: usize = 128;
-/// Most fields a tuple has.
-pub const FIELDS: usize = 6;
-/// Most processes.
-pub const PROCESSES: usize = 15;
+use crate::board::MOST_TUPLES;
+use crate::fields::{MOST_FIELDS, MOST_SEATS};
 
 /// A length is below this; a refusal is this and its number.
 const REFUSED: u64 = 1 << 32;
@@ -27,7 +23,7 @@ pub struct Field {
 #[derive(Clone, Copy, Debug, Default, PartialEq, Eq)]
 pub struct Tuple {
     pub count: usize,
-    pub fields: [Field; FIELDS],
+    pub fields: [Field; MOST_FIELDS],
 }
 
 #[repr(C)]
@@ -52,7 +48,7 @@ pub struct Config {
 pub struct Space {
     pub config: Config,
     pub count: usize,
-    pub tuples: [Tuple; TUPLES],
+    pub tuples: [Tuple; MOST_TUPLES],
 }
 
 /// 0 done, 1 none, 2 found, 3 inserted, 4 held, 5 refused; the refusal's number, else 0; the tuple, else blank.
@@ -86,16 +82,6 @@ pub struct Read {
     pub call: Call,
 }
 
-/// The reply, and what becomes of the space: 0 nothing, 1 the entry goes behind the newest tuple, 2 the tuple at the place is taken off;
-/// the place, else 0.
-#[repr(C)]
-#[derive(Clone, Copy, Debug, Default, PartialEq, Eq)]
-pub struct Judged {
-    pub reply: Reply,
-    pub change: u8,
-    pub at: usize,
-}
-
 /// Phase 0 proposing, 1 reading, 2 deciding, 3 decided; the value is the process asked (1) or the decision's code (3), else 0.
 #[repr(C)]
 #[derive(Clone, Copy, Debug, Default, PartialEq, Eq)]
@@ -105,7 +91,7 @@ pub struct Process {
     pub phase: u8,
     pub round: u64,
     pub value: u64,
-    pub found: [u64; PROCESSES],
+    pub found: [u64; MOST_SEATS as usize],
 }
 
 /// 0 calls, 1 decides, 2 refused; the refusal's number, else 0; the decision, else 0.
@@ -124,8 +110,6 @@ extern "C" {
     fn board_script(bytes: *const u8, length: usize, buffer: *mut u8, room: usize) -> u64;
     fn board_fresh(config: Config) -> Opened;
     fn board_apply(space: Space, call: Call) -> Applied;
-    fn board_judge(space: Space, call: Call) -> Judged;
-    fn board_carry_out(space: Space, entry: Tuple, change: u8, at: usize) -> Space;
     fn board_start(config: Config, process: u32, round: u64, bottom: u8, hundredths: i32) -> Step;
     fn board_resume(process: Process, reply: Reply) -> Step;
     fn board_read(bytes: *const u8, length: usize, at: usize) -> Read;
@@ -157,20 +141,6 @@ pub fn fresh(config: Config) -> Opened {
 pub fn apply(space: Space, call: Call) -> Applied {
     // Safety: only values cross.
     unsafe { board_apply(space, call) }
-}
-
-/// A call on a well-formed space, whose places are not tested: the reply, and what becomes of the space.
-#[inline]
-pub fn judge(space: &Space, call: &Call) -> Judged {
-    // Safety: only values cross.
-    unsafe { board_judge(*space, *call) }
-}
-
-/// The space after a change that a call with this entry was judged to make.
-#[inline]
-pub fn carry_out(space: &Space, entry: &Tuple, change: u8, at: usize) -> Space {
-    // Safety: only values cross.
-    unsafe { board_carry_out(*space, *entry, change, at) }
 }
 
 /// Starts a process; its proposal is bottom if the flag is not 0.

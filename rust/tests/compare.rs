@@ -4,6 +4,8 @@
 mod common;
 
 use common::*;
+use reference::board::MOST_TUPLES;
+use reference::fields::MOST_SEATS;
 use reference::records::record_of;
 use reference::{flat, sys};
 use reference::{Answer, AnswerKind, Board, Call, Config, Field, Kind, Offset, Phase, Refusal, Seat, Tuple};
@@ -162,12 +164,14 @@ fn calls_with_wrong_fields() {
 
 /// A tuple near the policies' shapes, as no run need make it.
 fn odd_tuple(dice: &mut Dice) -> Tuple {
-    let (round, seat) =
-        (dice.pick(&[0, 0, 0, 1, 7, 8]), dice.pick(&[0, 1, 1, 2, 3, 4, 5, 15, 16, 4_294_967_295]));
+    let (round, seat) = (
+        dice.pick(&[0, 0, 0, 1, 7, 8]),
+        dice.pick(&[0, 1, 1, 2, 3, 4, 5, MOST_SEATS, MOST_SEATS + 1, 4_294_967_295]),
+    );
     let offset = dice.pick(&[0, 1, 2, 3, 3, 3, 200_001]);
     match dice.below(8) {
         0 => good_tuple(dice, true),
-        1 => Tuple::decision(round, offset, dice.pick(&[0, 1, 3, 15, 31, 32_767])),
+        1 => Tuple::decision(round, offset, dice.pick(&[0, 1, 3, 15, 31, Kind::Seats.last()])),
         2 => Tuple::of(&[
             Field::given(Kind::Word, 2),
             Field::given(Kind::Count, round),
@@ -184,10 +188,12 @@ fn odd_tuple(dice: &mut Dice) -> Tuple {
 
 /// A call that aims at such tuples.
 fn aimed_call(dice: &mut Dice, n: u64) -> Call {
-    let seat = if dice.one_in(10) { dice.pick(&SEATS) } else { 1 + dice.below(n.clamp(1, 15)) as u32 };
+    let seat =
+        if dice.one_in(10) { dice.pick(&SEATS) } else { 1 + dice.below(n.clamp(1, MOST_SEATS)) as u32 };
     let (round, offset) = (dice.pick(&[0, 0, 0, 1, 7, 8]), dice.pick(&[0, 0, 1, 2, 3, 3]));
-    let own = if dice.one_in(6) { dice.below(17) } else { seat.into() };
-    let set = if dice.one_in(8) { dice.below(1 << 15) } else { dice.below(1 << n.clamp(1, 15)) };
+    let own = if dice.one_in(6) { dice.below(MOST_SEATS + 2) } else { seat.into() };
+    let bits = if dice.one_in(8) { MOST_SEATS } else { n.clamp(1, MOST_SEATS) };
+    let set = dice.below(1 << bits);
     let entry = odd_tuple(dice);
     let mut template = odd_tuple(dice);
     for field in &mut template.fields[..template.count] {
@@ -215,11 +221,11 @@ fn boards_that_no_run_makes() {
         } else {
             Config { policy: dice.pick(&[0, 1, 2, 2, 2]), ..config(&mut dice) }
         };
-        let mut board = Board { config, count: 0, tuples: [Tuple::BLANK; 128] };
+        let mut board = Board { config, count: 0, tuples: [Tuple::BLANK; MOST_TUPLES] };
         let held = match dice.below(6) {
-            0 => 128,
-            1 => 127,
-            2 => dice.below(129) as usize,
+            0 => MOST_TUPLES,
+            1 => MOST_TUPLES - 1,
+            2 => dice.below(MOST_TUPLES as u64 + 1) as usize,
             _ => dice.below(24) as usize,
         };
         for place in 0..held {
@@ -229,16 +235,19 @@ fn boards_that_no_run_makes() {
         // What is not well formed: a count that is not the tuples', a dirty place, a field out of range.
         if dice.one_in(5) {
             match dice.below(4) {
-                0 => board.count = dice.pick(&[0, 1, 127, 128, 129, 255, usize::MAX]),
+                0 => {
+                    let counts = [0, 1, MOST_TUPLES - 1, MOST_TUPLES, MOST_TUPLES + 1, 255, usize::MAX];
+                    board.count = dice.pick(&counts);
+                }
                 1 => {
-                    let (place, part) = (dice.below(128) as usize, dice.below(19));
+                    let (place, part) = (dice.below(MOST_TUPLES as u64) as usize, dice.below(TUPLE_PARTS));
                     spoil_tuple(&mut dice, &mut board.tuples[place], part);
                 }
                 2 => {
-                    let (place, part) = (dice.below(held.max(1) as u64) as usize, dice.below(19));
+                    let (place, part) = (dice.below(held.max(1) as u64) as usize, dice.below(TUPLE_PARTS));
                     spoil_tuple(&mut dice, &mut board.tuples[place], part);
                 }
-                _ => board.tuples[127].fields[5].value = 1,
+                _ => board.tuples[MOST_TUPLES - 1].fields[5].value = 1,
             }
         }
         for _ in 0..2 {
@@ -254,32 +263,44 @@ fn boards_that_no_run_makes() {
     count("calls on boards that no run makes", inputs, format!("answered, refused 1 to 11: {outcomes:?}"));
 }
 
+/// How many tuples the boards hold that are then made dirty.
+const HELD: [usize; 6] = [0, 1, 2, 64, MOST_TUPLES - 1, MOST_TUPLES];
+
+/// Boards that are well formed but for one number: whatever the call, it is refused 1, and the board comes back as it was.
 #[test]
-fn changes_of_any_number() {
+fn boards_with_dirty_places() {
     let mut dice = Dice::new(12);
     let mut inputs = 0;
-    for _ in 0..2_000 {
-        let mut board = Board::fresh(Config { n: 4, t: 1, policy: 0 }).unwrap();
-        board.count = dice.pick(&[0, 1, 2, 3, 64, 127, 128, 129, 1 << 20, usize::MAX]);
-        for place in 0..board.tuples.len() {
-            if place < board.count || dice.one_in(50) {
-                board.tuples[place] = odd_tuple(&mut dice);
+    let mut try_board = |dice: &mut Dice, mut board: Board| {
+        let mut call = aimed_call(dice, board.config.n);
+        if dice.one_in(4) {
+            let part = dice.below(PARTS);
+            spoil(dice, &mut call, part);
+        }
+        let before = board.clone();
+        assert_eq!(compare_call(&mut board, &call), Answer::from(Refusal::Unsound), "{call:?} on {before:?}");
+        assert!(board == before, "a refused call changed the board");
+        inputs += 1;
+    };
+    for (policy, held) in (0..=2).flat_map(|policy| HELD.map(|held| (policy, held))) {
+        let mut clean = Board::fresh(Config { n: 4, t: 1, policy }).unwrap();
+        clean.tuples[..held].fill_with(|| odd_tuple(&mut dice));
+        clean.count = held;
+        assert_eq!(clean.check(), Ok(()));
+        for place in 0..MOST_TUPLES {
+            for part in 0..TUPLE_PARTS {
+                let mut board = clean.clone();
+                soil(&mut dice, &mut board.tuples[place], part);
+                try_board(&mut dice, board);
             }
         }
-        let mut entry = odd_tuple(&mut dice);
-        if dice.one_in(4) {
-            let part = dice.below(19);
-            spoil_tuple(&mut dice, &mut entry, part);
-        }
-        for change in [0, 1, 2, 3, 255] {
-            let last = board.count.wrapping_sub(1);
-            for at in [0, 1, last, board.count, 127, 128, dice.below(128) as usize, usize::MAX] {
-                compare_change(&board, &entry, change, at);
-                inputs += 1;
+        for count in HELD.into_iter().chain([MOST_TUPLES + 1, 255, 1 << 20, usize::MAX]) {
+            if count != held {
+                try_board(&mut dice, Board { count, ..clean.clone() });
             }
         }
     }
-    count("changes of any number", inputs, "on boards with any count, each number left behind".into());
+    count("calls on boards with one dirty number", inputs, "each refused 1, the board as it was".into());
 }
 
 #[test]
@@ -287,10 +308,10 @@ fn seats_started() {
     let third = u64::MAX / 3;
     let mut inputs = 0;
     let mut started = 0;
-    for n in [0, 1, 3, 4, 15, 16, u64::MAX] {
+    for n in [0, 1, 3, 4, MOST_SEATS, MOST_SEATS + 1, u64::MAX] {
         for t in [0, 1, 4, 5, third, third + 1, u64::MAX] {
             for policy in [0, 1, 2, 3, u64::MAX] {
-                for process in [0, 1, 4, 5, 15, 16, u32::MAX] {
+                for process in [0, 1, 4, 5, MOST_SEATS as u32, MOST_SEATS as u32 + 1, u32::MAX] {
                     for round in [0, 7, 8, u64::MAX] {
                         let numbers = [0, 1, -1, 100_000, -100_000, 100_001, -100_001, i32::MAX, i32::MIN];
                         let offsets = numbers.map(|z| Offset::Number(z.into()));
@@ -309,7 +330,7 @@ fn seats_started() {
 
 /// A state of any phase: near what the procedure reaches, or any.
 fn state(dice: &mut Dice) -> Seat {
-    let n = dice.pick(&[1, 2, 3, 4, 4, 4, 5, 7, 10, 15]);
+    let n = dice.pick(&[1, 2, 3, 4, 4, 4, 5, 7, 10, MOST_SEATS]);
     let t = dice.below((n - 1) / 3 + 1);
     let mut config = Config { n, t, policy: 2 };
     if dice.one_in(20) {
@@ -323,7 +344,7 @@ fn state(dice: &mut Dice) -> Seat {
         round = dice.pick(&VALUES);
     }
     // Found seats: few offsets, so that they meet; seldom out of range or behind n.
-    let mut found = [0; 15];
+    let mut found = [0; MOST_SEATS as usize];
     let share = dice.below(4);
     for place in &mut found[..n as usize] {
         if dice.below(4) < share {
@@ -331,7 +352,7 @@ fn state(dice: &mut Dice) -> Seat {
         }
     }
     if dice.one_in(12) {
-        found[dice.below(15) as usize] = dice.pick(&[0, 1, 200_000, 200_001, 200_002, u64::MAX]);
+        found[dice.below(MOST_SEATS) as usize] = dice.pick(&[0, 1, 200_000, 200_001, 200_002, u64::MAX]);
     }
     let phase = match dice.below(10) {
         0 => Phase::Proposing,
@@ -340,10 +361,12 @@ fn state(dice: &mut Dice) -> Seat {
         _ => Phase::Decided(dice.pick(&[0, 1, 3, 200_000, 200_001, 200_002, u64::MAX])),
     };
     if matches!(phase, Phase::Proposing | Phase::Decided(_)) && !dice.one_in(6) {
-        found = [0; 15];
+        found.fill(0);
     }
-    if let (Phase::Reading(asked @ 1..=15), true) = (phase, dice.below(4) > 0) {
-        found[asked as usize - 1] = 0;
+    if let (Phase::Reading(asked), true) = (phase, dice.below(4) > 0) {
+        if let Some(place) = found.get_mut((asked as usize).wrapping_sub(1)) {
+            *place = 0;
+        }
     }
     Seat { config, process, round, phase, found }
 }
@@ -352,7 +375,8 @@ fn state(dice: &mut Dice) -> Seat {
 fn answer(dice: &mut Dice, seat: &Seat) -> Answer {
     let offset = dice.pick(&[0, 1, 2, 3, 3, 200_001]);
     let asked = if let Phase::Reading(asked) = seat.phase { asked } else { 1 };
-    let set = if dice.one_in(6) { dice.below(1 << 16) } else { dice.below(1 << seat.config.n.clamp(1, 15)) };
+    let bits = if dice.one_in(6) { MOST_SEATS + 1 } else { seat.config.n.clamp(1, MOST_SEATS) };
+    let set = dice.below(1 << bits);
     let mut answer = match (seat.phase, dice.below(4)) {
         (_, 0) => Answer::bare(dice.pick(&[
             AnswerKind::Done,
@@ -370,7 +394,7 @@ fn answer(dice: &mut Dice, seat: &Seat) -> Answer {
         _ => Answer::held(Tuple::decision(seat.round, offset, set)),
     };
     if dice.one_in(4) {
-        let part = dice.below(19);
+        let part = dice.below(TUPLE_PARTS);
         spoil_tuple(dice, &mut answer.tuple, part);
     }
     if dice.one_in(10) {
@@ -420,7 +444,7 @@ fn numbers_that_are_no_case() {
                 0 => process.phase = dice.pick(&[4, 5, 127, 128, 255]),
                 1 => {
                     process.phase = dice.pick(&[0, 2]);
-                    process.value = dice.pick(&[1, 2, 15, u64::MAX]);
+                    process.value = dice.pick(&[1, 2, MOST_SEATS, u64::MAX]);
                 }
                 _ => {
                     process.phase = 1;
@@ -457,8 +481,8 @@ fn set_ups_of_scripts() {
         &[2],
         &[3],
         &[4],
-        &[15],
-        &[16],
+        &[MOST_SEATS as u8],
+        &[MOST_SEATS as u8 + 1],
         &[0x7F],
         &[0x80, 0x01],
         &[0x84, 0x00],
@@ -496,12 +520,13 @@ fn set_ups_of_scripts() {
 fn fresh_boards() {
     let mut inputs = 0;
     let third = u64::MAX / 3;
-    for n in (0..=17).chain([u64::MAX]) {
+    for n in (0..=MOST_SEATS + 2).chain([u64::MAX]) {
         for t in (0..=6).chain([third, third + 1, u64::MAX]) {
             for policy in [0, 1, 2, 3, u64::MAX] {
                 let config = Config { n, t, policy };
                 let ours = sys::fresh(flat::config(&config));
-                let blank = Board { config: Config::default(), count: 0, tuples: [Tuple::BLANK; 128] };
+                let blank =
+                    Board { config: Config::default(), count: 0, tuples: [Tuple::BLANK; MOST_TUPLES] };
                 let (refusal, board) = match Board::fresh(config) {
                     Ok(board) => (0, board),
                     Err(refusal) => (refusal.number(), blank),

@@ -3,6 +3,7 @@
 
 use std::collections::HashMap;
 
+use reference::fields::MOST_SEATS;
 use reference::policy::LAST_ROUND;
 use reference::records::{read_record, record_of};
 use reference::{Answer, AnswerKind, Board, Call, Config, Field, Kind, Offset, Phase, Seat, Step, Tuple};
@@ -100,7 +101,7 @@ impl Record {
 
 /// Makes one run; gives the number of rounds decided in it.
 fn run(dice: &mut Dice) -> usize {
-    let n = 1 + dice.below(15);
+    let n = 1 + dice.below(MOST_SEATS);
     let t = dice.below((n - 1) / 3 + 1);
     let config = Config { n, t, policy: 2 };
     let choices = 1 + dice.below(4);

@@ -6,6 +6,7 @@ mod common;
 use std::collections::{BTreeMap, HashMap};
 
 use common::*;
+use reference::fields::MOST_SEATS;
 use reference::records::record_of;
 use reference::{Answer, AnswerKind, Board, Call, Config, Field, Kind, Offset, Phase, Seat, Step, Tuple};
 
@@ -173,11 +174,11 @@ fn stray_call(dice: &mut Dice, run: &Run, process: u32, round: u64, choices: u64
         3 | 4 => cas(offset, set(&mut proposed.iter().filter(|(_, w)| **w == offset).map(|(k, _)| *k))),
         // The same and one seat more, itself or any.
         5 => {
-            let extra = if dice.one_in(2) { process.into() } else { 1 + dice.below(15) };
+            let extra = if dice.one_in(2) { process.into() } else { 1 + dice.below(MOST_SEATS) };
             cas(
                 offset,
                 set(&mut proposed.iter().filter(|(_, w)| **w == offset).map(|(k, _)| *k))
-                    | 1 << (extra.clamp(1, 15) - 1),
+                    | 1 << (extra.clamp(1, MOST_SEATS) - 1),
             )
         }
         // The mark, with at most t seats of each offset: a race to the mark.
@@ -192,7 +193,7 @@ fn stray_call(dice: &mut Dice, run: &Run, process: u32, round: u64, choices: u64
         }
         // The mark with all that proposed, or with all.
         8 => cas(Offset::MARK, set(&mut proposed.keys().copied())),
-        9 => cas(if dice.one_in(2) { Offset::MARK } else { offset }, dice.below(1 << 15)),
+        9 => cas(if dice.one_in(2) { Offset::MARK } else { offset }, dice.below(1 << MOST_SEATS)),
         10 => Call::rdp(process, Tuple::decision_template(round)),
         _ => Call::inp(
             process,
@@ -209,7 +210,7 @@ fn stray_call(dice: &mut Dice, run: &Run, process: u32, round: u64, choices: u64
 }
 
 fn run_of_default(dice: &mut Dice, counts: &mut Counts) {
-    let n = 1 + dice.below(15);
+    let n = 1 + dice.below(MOST_SEATS);
     let t = if dice.one_in(3) { dice.below((n - 1) / 3 + 1) } else { (n - 1) / 3 };
     let mut run = Run::new(Config { n, t, policy: 2 });
     let choices = 1 + dice.below(4);

@@ -1,19 +1,13 @@
 -- What goes out in numbers comes back in as it was, case by case.
-use mathlib.Core.Path.{_≡_, refl, sym, ap, _∙_}
+use mathlib.Core.Path.{_≡_, refl, sym}
 use mathlib.Core.Bool.{true, false≢true}
 use Prim.Native.Nat.{ℕ, zero, suc}
 use native.Mathlib.Omega.{arith}
 use borrow.Author.Tests.{eqb-true, ne-eqb}
-use Rattle.board_c.specs.Flat.{outcomeNumber, outcomeRefusal, plainOutcome, outcomeOf, changeOf, phaseNumber, phaseValue, phaseOf, isPhase, flatReply, flatApplied}
-use Rattle.board_c.specs.Laws.{ReplyRule, ChangeRule, StepsRule, ProcessRule, KeptRule}
-use Rattle.board_c.specs.declared.reply.FlatApplied.{FlatApplied}
-use Rattle.space.specs.declared.change.Change.{Change}
-use Rattle.space.specs.Changes.{carriedOut}
-use Rattle.space.specs.Judging.{judged}
-use Rattle.space.proofs.JudgingLaws.{judge-rule}
+use Rattle.board_c.specs.Flat.{outcomeNumber, outcomeRefusal, plainOutcome, outcomeOf, phaseNumber, phaseValue, phaseOf, isPhase}
+use Rattle.board_c.specs.Laws.{ReplyRule, ProcessRule, KeptRule}
 use Rattle.process.specs.declared.process.Phase.{Phase}
 use Rattle.process.specs.declared.process.Phase.the-variants.{Proposing, Reading, Deciding, Decided}
-use Rattle.space.specs.declared.change.Change.the-variants.{Keep, Append, Remove}
 use Rattle.tuple.specs.declared.refusal.Refusal.the-variants.{Unsound, Cut, Beyond, Unknown, Misshapen, Stranger, Denied, Full, LongScript, NoRoom, Unfit}
 use Rattle.tuple.specs.declared.reply.Outcome.{Outcome}
 use Rattle.tuple.specs.declared.reply.Outcome.the-variants.{Done, None, Found, Inserted, Held, Refused}
@@ -39,18 +33,6 @@ outcome-back (Refused Unfit) = refl
 
 pub reply-back : ReplyRule
 reply-back reply = rw (outcome-back (reply .outcome))
-
-pub change-back : ChangeRule
-unfolding changeOf
-change-back Keep = refl
-change-back Append = refl
-change-back (Remove i) = refl
-
-pub steps-rule : StepsRule
-steps-rule space call tidy formed =
-    let given = judged space call in
-    ap flatApplied (judge-rule space call tidy formed)
-    ∙ ap {B = FlatApplied} (λ (change : Change). record { reply = flatReply (given .reply); space = carriedOut space (call .entry) change }) (sym (change-back (given .change)))
 
 phase-back : (phase : Phase) → phaseOf (phaseNumber phase) (phaseValue phase) ≡ phase
 unfolding phaseOf

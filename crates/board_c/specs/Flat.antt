@@ -4,13 +4,14 @@ use mathlib.Core.Bool.{Bool, true, cond}
 use mathlib.Core.List.{List}
 use lib.Dec.{eqb}
 use lib.IntN.{ℤ, pos}
-use Rattle.board_c.specs.declared.change.FlatJudged.{FlatJudged}
 use Rattle.board_c.specs.declared.reply.FlatReply.{FlatReply}
 use Rattle.board_c.specs.declared.reply.FlatOpened.{FlatOpened}
 use Rattle.board_c.specs.declared.reply.FlatApplied.{FlatApplied}
 use Rattle.board_c.specs.declared.reply.FlatRead.{FlatRead}
 use Rattle.board_c.specs.declared.state.FlatProcess.{FlatProcess}
 use Rattle.board_c.specs.declared.state.FlatStep.{FlatStep}
+use Rattle.calls.specs.declared.turn.Applied.{Applied}
+use Rattle.calls.specs.Turns.{applied as callApplied}
 use Rattle.process.specs.declared.process.Next.{Next as Coming}
 use Rattle.process.specs.declared.process.Next.the-variants.{Calls, Decides, Refuses}
 use Rattle.process.specs.declared.process.Phase.{Phase}
@@ -19,8 +20,7 @@ use Rattle.process.specs.declared.process.Process.{Process}
 use Rattle.process.specs.declared.process.Step.{Step}
 use Rattle.process.specs.Procedure.{started as processStarted, resumed as processResumed}
 use Rattle.record.specs.declared.reader.Next.{Next}
-use Rattle.record.specs.declared.reader.Next.the-variants.{At}
-use Rattle.record.specs.declared.reader.Next.the-variants.{Refused as Unread}
+use Rattle.record.specs.declared.reader.Next.the-variants.{At, Refused as Unread}
 use Rattle.record.specs.declared.reader.ReadCall.{ReadCall}
 use Rattle.record.specs.declared.writer.Recorded.{Recorded}
 use Rattle.record.specs.declared.writer.Recorded.the-variants as recorded
@@ -29,21 +29,13 @@ use Rattle.record.specs.Writing.{writtenOf}
 use Rattle.script.specs.declared.run.Printed.{Printed}
 use Rattle.script.specs.declared.run.Printed.the-variants as printed
 use Rattle.script.specs.Printing.{printedOf}
-use Rattle.space.specs.declared.change.Change.{Change}
-use Rattle.space.specs.declared.change.Change.the-variants.{Keep, Append, Remove}
 use Rattle.space.specs.declared.config.Config.{Config}
-use Rattle.space.specs.declared.judging.Judged.{Judged}
-use Rattle.space.specs.declared.space.Applied.{Applied}
 use Rattle.space.specs.declared.space.Opened.{Opened}
 use Rattle.space.specs.declared.space.Opening.{Opening}
 use Rattle.space.specs.declared.space.Opening.the-variants.{Stands, Unopened}
 use Rattle.space.specs.declared.space.Space.{Space}
-use Rattle.space.specs.Changes.{carriedOut as spaceCarriedOut}
-use Rattle.space.specs.Judging.{judged as spaceJudged}
 use Rattle.space.specs.Spaces.{freshOf}
-use Rattle.space.specs.Turns.{applied as spaceApplied}
 use Rattle.tuple.specs.declared.field.Call.{Call}
-use Rattle.tuple.specs.declared.field.Tuple.{Tuple}
 use Rattle.tuple.specs.declared.offset.Offset.{Offset}
 use Rattle.tuple.specs.declared.offset.Offset.the-variants.{Bottom, Hundredths}
 use Rattle.tuple.specs.declared.reply.Outcome.{Outcome}
@@ -114,23 +106,6 @@ flatOpened opened = record { refusal = openingRefusal (opened .opening); space =
 
 abbrev pub flatApplied : Applied → FlatApplied
 flatApplied applied = record { reply = flatReply (applied .reply); space = applied .space }
-
-abbrev pub changeNumber : Change → ℕ
-changeNumber Keep = 0
-changeNumber Append = 1
-changeNumber (Remove i) = 2
-
-abbrev pub changePlace : Change → ℕ
-changePlace Keep = 0
-changePlace Append = 0
-changePlace (Remove i) = i
-
-abbrev pub flatJudged : Judged → FlatJudged
-flatJudged judged = record { reply = flatReply (judged .reply); change = changeNumber (judged .change); at = changePlace (judged .change) }
-
--- what is no change's number changes nothing
-unfoldable pub changeOf : ℕ → ℕ → Change
-changeOf change at = cond (eqb change 1) Append (cond (eqb change 2) (Remove at) Keep)
 
 -- ---- reading
 
@@ -241,8 +216,8 @@ flatStep step =
 abbrev pub unknownState : FlatProcess → FlatStep
 unknownState process = record { next = 2; refusal = 1; bottom = 0; hundredths = pos 0; process = process; call = blankCall }
 
-unfoldable pub offsetOf : ℕ → ℤ → Offset
-offsetOf bottom z = cond (eqb bottom 0) (Hundredths z) Bottom
+unfoldable pub flaggedOffset : ℕ → ℤ → Offset
+flaggedOffset bottom z = cond (eqb bottom 0) (Hundredths z) Bottom
 
 -- ---- what the exports answer
 
@@ -253,16 +228,10 @@ abbrev pub opened : Config → FlatOpened
 opened config = flatOpened (freshOf config)
 
 abbrev pub applied : Space → Call → FlatApplied
-applied space call = flatApplied (spaceApplied space call)
-
-abbrev pub judged : Space → Call → FlatJudged
-judged space call = flatJudged (spaceJudged space call)
-
-abbrev pub carriedOut : Space → Tuple → ℕ → ℕ → Space
-carriedOut space entry change at = spaceCarriedOut space entry (changeOf change at)
+applied space call = flatApplied (callApplied space call)
 
 abbrev pub started : Config → ℕ → ℕ → ℕ → ℤ → FlatStep
-started config process round bottom z = flatStep (processStarted config process round (offsetOf bottom z))
+started config process round bottom z = flatStep (processStarted config process round (flaggedOffset bottom z))
 
 abbrev pub resumed : FlatProcess → FlatReply → FlatStep
 resumed process reply =

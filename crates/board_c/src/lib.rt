@@ -2,17 +2,14 @@
 // stands for each case of an enum.
 ghost use mathlib.Core.Path.{_≡_};
 ghost use lib.ListN.{length};
-ghost use Rattle.board_c.specs.Flat.{scripted, opened, applied as applied·, judged as judged·, carriedOut, started as started·, resumed as resumed·, readAt, written};
+ghost use Rattle.board_c.specs.Flat.{scripted, opened, applied as applied·, started as started·, resumed as resumed·, readAt, written};
 ghost use Rattle.record.specs.Writing.{leftOf as recordLeft};
 ghost use Rattle.script.specs.Printing.{leftOf as textLeft};
 
-mod change;
 mod number;
 mod reply;
 mod state;
 
-use crate::change::change_of;
-use crate::change::flat_judged;
 use crate::number::recorded_number;
 use crate::number::text_number;
 use crate::reply::flat_applied;
@@ -24,7 +21,6 @@ use crate::state::is_phase;
 use crate::state::offset_of;
 use crate::state::process_of;
 use crate::state::unknown_state;
-pub use change::FlatJudged;
 use record::Cursor;
 pub use reply::FlatApplied;
 pub use reply::FlatOpened;
@@ -35,7 +31,6 @@ use space::Space;
 pub use state::FlatProcess;
 pub use state::FlatStep;
 use tuple::Call;
-use tuple::Tuple;
 
 // Runs a script and puts its text at the start of buffer: the text's length, or 2^32 and the refusal's number.
 #[no_mangle]
@@ -59,26 +54,7 @@ pub extern "C" fn board_fresh(config: Config) -> FlatOpened
 pub extern "C" fn board_apply(space: Space, call: Call) -> FlatApplied
     ensures { λ r. ⌜ r ≡ applied· space call ⌝ }
 {
-    flat_applied(space::apply(space, call))
-}
-
-// Judges a call: the reply, and what becomes of the space. The places of the space are not tested. On a well-formed space, one from
-// board_fresh, from board_apply, or from board_carry_out with the entry and the change of the call judged before, this is board_apply's
-// reply, and board_carry_out gives its space.
-#[no_mangle]
-pub extern "C" fn board_judge(space: Space, call: Call) -> FlatJudged
-    ensures { λ r. ⌜ r ≡ judged· space call ⌝ }
-{
-    flat_judged(space::judge(space, call))
-}
-
-// The space after a change: 1 the entry, which is not tested, goes behind the newest tuple; 2 the tuple at the place is taken off. Any
-// other number, an entry without room, a place that holds no tuple and a count above 128 change nothing.
-#[no_mangle]
-pub extern "C" fn board_carry_out(space: Space, entry: Tuple, change: u8, at: usize) -> Space
-    ensures { λ r. ⌜ r ≡ carriedOut space entry change at ⌝ }
-{
-    space::carry_out(space, entry, change_of(change, at))
+    flat_applied(calls::apply(space, call))
 }
 
 // Starts a process in a round with its proposal: bottom if the flag is not 0.

@@ -2,9 +2,9 @@
 ghost use mathlib.Core.Path.{_≡_};
 ghost use Rattle.board_c.specs.Flat.{outcomeNumber, outcomeRefusal, flatReply, flatOpened, flatApplied, flatRead, nextRefusal, nextPlace, openingRefusal, plainOutcome, outcomeOf, replyOf};
 ghost use Rattle.tuple.specs.Refusals.{refusal as refusal·};
+use calls::Applied;
 use record::Next;
 use record::ReadCall;
-use space::Applied;
 use space::Opened;
 use space::Opening;
 use space::Space;
@@ -76,7 +76,7 @@ pub(crate) fn flat_applied(applied: Applied) -> FlatApplied
     }
 }
 
-pub(crate) fn flat_reply(reply: Reply) -> FlatReply
+fn flat_reply(reply: Reply) -> FlatReply
     ensures { λ r. ⌜ r ≡ flatReply reply ⌝ }
 {
     let outcome = reply.outcome;

@@ -1,6 +1,6 @@
 // A process's state, and what starting it and handing it a reply give, with numbers in place of enums.
 ghost use mathlib.Core.Path.{_≡_};
-ghost use Rattle.board_c.specs.Flat.{phaseNumber, phaseValue, nextNumber, refusalOf, bottomFlag, hundredths as hundredths·, bottomOf, hundredthsOf, flatProcess, flatStep, isPhase, phaseOf, processOf, offsetOf, unknownState};
+ghost use Rattle.board_c.specs.Flat.{phaseNumber, phaseValue, nextNumber, refusalOf, bottomFlag, hundredths as hundredths·, bottomOf, hundredthsOf, flatProcess, flatStep, isPhase, phaseOf, processOf, flaggedOffset, unknownState};
 use process::Next;
 use process::Phase;
 use process::Process;
@@ -188,7 +188,7 @@ pub(crate) fn process_of(process: FlatProcess) -> Process
 }
 
 pub(crate) fn offset_of(bottom: u8, hundredths: i32) -> Offset
-    ensures { λ r. ⌜ r ≡ offsetOf bottom hundredths ⌝ }
+    ensures { λ r. ⌜ r ≡ flaggedOffset bottom hundredths ⌝ }
 {
     if bottom == 0 {
         Offset::Hundredths(hundredths)

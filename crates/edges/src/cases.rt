@@ -1,331 +1,165 @@
-// The cases, each a short run of calls.
-use crate::text::line;
-use crate::text::refused;
-use crate::text::word;
-use space::Config;
-use space::Opening;
+// The cases, each a short run of calls. An offset is named by its code: -40 has the code 80, 40 the code 81, and bottom the code 0.
+use crate::lines::count_line;
+use crate::making::decide;
+use crate::making::make;
+use crate::making::open;
+use crate::making::quiet_out;
+use crate::making::set_up;
+use crate::tuples::any_word;
+use crate::tuples::asking;
+use crate::tuples::pair;
+use crate::tuples::proposal;
+use crate::tuples::words;
 use space::Space;
 use tuple::CAS;
-use tuple::COUNT;
-use tuple::Call;
-use tuple::DECISION;
-use tuple::DEFINED;
-use tuple::FIELDS;
-use tuple::FORMAL;
-use tuple::Field;
 use tuple::OFFSET;
 use tuple::OUT;
 use tuple::PROCESS_SET;
-use tuple::PROPOSE;
 use tuple::RDP;
 use tuple::Tuple;
-use tuple::WILDCARD;
 use tuple::WORD;
 
-// ---- fields, tuples and calls
-
-fn field(kind: u8, state: u8, value: u64) -> Field {
-    Field { kind, state, value }
-}
-
-fn two(a: Field, b: Field) -> Tuple {
-    let mut tuple = Tuple::blank();
-    tuple.count = 2;
-    tuple.fields[0] = a;
-    tuple.fields[1] = b;
-    tuple
-}
-
-fn four(a: Field, b: Field, c: Field, d: Field) -> Tuple {
-    let mut tuple = two(a, b);
-    tuple.count = 4;
-    tuple.fields[2] = c;
-    tuple.fields[3] = d;
-    tuple
-}
-
-// (word 1, count round, count process, offset), the offset by its code
-fn proposal(round: u64, process: u64, code: u64) -> Tuple {
-    four(
-        field(WORD, DEFINED, PROPOSE),
-        field(COUNT, DEFINED, round),
-        field(COUNT, DEFINED, process),
-        field(OFFSET, DEFINED, code),
-    )
-}
-
-// (word 2, count round, offset, processes), the offset by its code
-fn decision(round: u64, code: u64, set: u64) -> Tuple {
-    four(
-        field(WORD, DEFINED, DECISION),
-        field(COUNT, DEFINED, round),
-        field(OFFSET, DEFINED, code),
-        field(PROCESS_SET, DEFINED, set),
-    )
-}
-
-// (word 2, count round, open offset, any processes)
-fn asking(round: u64) -> Tuple {
-    four(
-        field(WORD, DEFINED, DECISION),
-        field(COUNT, DEFINED, round),
-        field(OFFSET, FORMAL, 0),
-        field(PROCESS_SET, WILDCARD, 0),
-    )
-}
-
-fn out(process: u32, entry: Tuple) -> Call {
-    Call {
-        process,
-        code: OUT,
-        template: Tuple::blank(),
-        entry,
-    }
-}
-
-fn rdp(process: u32, template: Tuple) -> Call {
-    Call {
-        process,
-        code: RDP,
-        template,
-        entry: Tuple::blank(),
-    }
-}
-
-fn cas(process: u32, template: Tuple, entry: Tuple) -> Call {
-    Call {
-        process,
-        code: CAS,
-        template,
-        entry,
-    }
-}
-
-// ---- making calls
-
-fn open(n: u64, t: u64, policy: u64) -> Space {
-    let opened = space::fresh(Config { n, t, policy });
-    opened.space
-}
-
-// Makes a call, prints its line and hands the space on.
-fn make(label: &[u8], space: Space, call: Call) -> Space {
-    let applied = space::apply(space, call);
-    let reply = applied.reply;
-    line(label, reply);
-    applied.space
-}
-
-// The space after a call, with no line.
-fn quietly(space: Space, call: Call) -> Space {
-    let applied = space::apply(space, call);
-    applied.space
-}
-
-fn opens(label: &[u8], config: Config) {
-    word(label);
-    let opened = space::fresh(config);
-    let opening = opened.opening;
-    match opening {
-        Opening::Stands => word(b" stands"),
-        Opening::Unopened(refusal) => refused(refusal),
-    }
-    word(b"\n");
-}
-
-// ---- the cases
-
-// The seven calls of the worked script: -40 has the code 80, 40 the code 81.
+// The seven calls of the worked script.
 pub(crate) fn script() {
+    let labels: &[u8] = b"\
+        script 1\n\
+        script 2\n\
+        script 3\n\
+        script 4\n\
+        script 5\n\
+        script 6\n\
+        script 7\n\
+        script tuples";
+    let blank = Tuple::blank();
     let mut board = open(4, 1, 2);
-    board = make(b"script 1", board, out(1, proposal(0, 1, 80)));
-    board = make(b"script 2", board, out(2, proposal(0, 2, 81)));
-    board = make(b"script 3", board, out(3, proposal(0, 3, 80)));
-    board = make(b"script 4", board, cas(4, asking(0), decision(0, 81, 2)));
-    board = make(b"script 5", board, cas(1, asking(0), decision(0, 80, 5)));
-    board = make(b"script 6", board, rdp(2, asking(0)));
-    let mut word_only = two(field(WORD, WILDCARD, 0), field(0, 0, 0));
-    word_only.count = 1;
-    board = make(b"script 7", board, rdp(5, word_only));
-    held(b"script tuples", board);
+    board = make(labels, 1, board, 1, OUT, blank, proposal(1, 80));
+    board = make(labels, 2, board, 2, OUT, blank, proposal(2, 81));
+    board = make(labels, 3, board, 3, OUT, blank, proposal(3, 80));
+    board = decide(labels, 4, board, 4, 81, 2);
+    board = decide(labels, 5, board, 1, 80, 5);
+    board = make(labels, 6, board, 2, RDP, asking(), blank);
+    board = make(labels, 7, board, 5, RDP, any_word(), blank);
+    count_line(labels, 8, board.count);
 }
 
-fn held(label: &[u8], space: Space) {
-    word(label);
-    word(b" ");
-    let count = space.count;
-    io::print_decimal(libc::STDOUT_FILENO, count as u64);
-    word(b"\n");
-}
-
-pub(crate) fn configurations() {
-    opens(
-        b"set-up 4 1",
-        Config {
-            n: 4,
-            t: 1,
-            policy: 2,
-        },
-    );
-    opens(
-        b"set-up 3 1",
-        Config {
-            n: 3,
-            t: 1,
-            policy: 2,
-        },
-    );
-    opens(
-        b"set-up 1 0",
-        Config {
-            n: 1,
-            t: 0,
-            policy: 2,
-        },
-    );
-}
-
-// A tuple of `count` word fields.
-fn words(count: usize) -> Tuple {
-    let one = field(WORD, DEFINED, 7);
-    Tuple {
-        count,
-        fields: [one; FIELDS],
-    }
-}
-
-pub(crate) fn counts_and_sets() {
+// Configurations, numbers of fields, and process sets.
+pub(crate) fn limits() {
+    let labels: &[u8] = b"\
+        set-up 4 1\n\
+        set-up 3 1\n\
+        set-up 1 0\n\
+        field count 6\n\
+        field count 7\n\
+        seats 32767\n\
+        seats 32768";
+    set_up(labels, 1, 4, 1);
+    set_up(labels, 2, 3, 1);
+    set_up(labels, 3, 1, 0);
+    let blank = Tuple::blank();
     let board = open(4, 1, 0);
-    make(b"field count 6", board, out(1, words(6)));
-    make(b"field count 7", board, out(1, words(7)));
-    let most = two(field(WORD, DEFINED, 7), field(PROCESS_SET, DEFINED, 32_767));
-    let more = two(field(WORD, DEFINED, 7), field(PROCESS_SET, DEFINED, 32_768));
-    make(b"seats 32767", board, out(1, most));
-    make(b"seats 32768", board, out(1, more));
+    make(labels, 4, board, 1, OUT, blank, words(6));
+    make(labels, 5, board, 1, OUT, blank, words(7));
+    make(labels, 6, board, 1, OUT, blank, pair(PROCESS_SET, 32_767));
+    make(labels, 7, board, 1, OUT, blank, pair(PROCESS_SET, 32_768));
 }
 
-// With t = 0 every proposal of a member is one by more than t members.
-pub(crate) fn bottom_without_faulty() {
-    let mut board = open(1, 0, 2);
-    board = make(b"t 0 proposal", board, out(1, proposal(0, 1, 80)));
-    make(b"t 0 bottom", board, cas(1, asking(0), decision(0, 0, 1)));
-}
-
-// Bottom, on proposals of three offsets by processes 1, 2 and 3; then on spaces handed in: one that holds a proposal of process 1 twice, and
-// one in which process 3 has proposed nothing but bottom.
+// A cas of bottom.
 pub(crate) fn bottom() {
-    let mut board = open(4, 1, 2);
-    board = quietly(board, out(1, proposal(0, 1, 80)));
-    board = quietly(board, out(2, proposal(0, 2, 81)));
-    board = quietly(board, out(3, proposal(0, 3, 82)));
-    let call = cas(1, asking(0), decision(0, 0, 7));
-    make(b"bottom of three offsets", board, call);
+    let labels: &[u8] = b"\
+        t 0 proposal\n\
+        t 0 bottom\n\
+        bottom of three offsets\n\
+        bottom with one proposal twice\n\
+        bottom with bottom proposed";
+    // With t = 0 every proposal of a member is one by more than t members.
+    let one = make(
+        labels,
+        1,
+        open(1, 0, 2),
+        1,
+        OUT,
+        Tuple::blank(),
+        proposal(1, 80),
+    );
+    decide(labels, 2, one, 1, 0, 1);
+    // On proposals of three offsets by processes 1, 2 and 3.
+    let board = quiet_out(proposed(80, 81), 3, proposal(3, 82));
+    decide(labels, 3, board, 1, 0, 7);
+    // On spaces handed in: one that holds a proposal of process 1 twice, and one in which process 3 has proposed nothing but bottom.
     let mut twice = board;
     twice.count = 4;
-    twice.tuples[3] = proposal(0, 1, 80);
-    make(b"bottom with one proposal twice", twice, call);
+    twice.tuples[3] = proposal(1, 80);
+    decide(labels, 4, twice, 1, 0, 7);
     let mut without = board;
-    without.tuples[2] = proposal(0, 3, 0);
-    make(b"bottom with bottom proposed", without, call);
+    without.tuples[2] = proposal(3, 0);
+    decide(labels, 5, without, 1, 0, 7);
+}
+
+// A space on which processes 1 and 2 have proposed.
+fn proposed(first: u64, second: u64) -> Space {
+    let board = quiet_out(open(4, 1, 2), 1, proposal(1, first));
+    quiet_out(board, 2, proposal(2, second))
 }
 
 pub(crate) fn capacity() {
-    let board = filled(open(1, 0, 0), out(1, words(6)), 127);
-    let full = make(b"out 128", board, out(1, words(6)));
-    make(b"out 129", full, out(1, words(6)));
-    make(b"full cas that matches", full, cas(1, words(6), words(6)));
-    let other = two(field(WORD, DEFINED, 7), field(WORD, DEFINED, 8));
-    make(b"full cas without match", full, cas(1, other, words(6)));
+    let labels: &[u8] = b"\
+        out 128\n\
+        out 129\n\
+        full cas that matches\n\
+        full cas without match";
+    let blank = Tuple::blank();
+    let six = words(6);
+    let board = filled(open(1, 0, 0), six, 127);
+    let full = make(labels, 1, board, 1, OUT, blank, six);
+    make(labels, 2, full, 1, OUT, blank, six);
+    make(labels, 3, full, 1, CAS, six, six);
+    make(labels, 4, full, 1, CAS, pair(WORD, 8), six);
 }
 
-// The space after a call that is made `times` times.
-fn filled(space: Space, call: Call, times: u32) -> Space {
+// The space after as many outs of a tuple.
+fn filled(space: Space, entry: Tuple, times: u32) -> Space {
     let mut board = space;
     let mut i: u32 = 0;
     while i < times {
-        board = quietly(board, call);
+        board = quiet_out(board, 1, entry);
         i += 1;
     }
     board
 }
 
+// What a slip would get wrong.
 pub(crate) fn slips() {
-    signs();
-    bottom_and_zero();
-    two_proposals();
-    opens(
-        b"slip wrapping sum",
-        Config {
-            n: 1,
-            t: 0x5555_5555_5555_5555,
-            policy: 2,
-        },
-    );
-    decided();
-}
-
-// 40 and -40 are two offsets.
-fn signs() {
-    let mut board = open(4, 1, 2);
-    board = quietly(board, out(1, proposal(0, 1, 80)));
-    board = quietly(board, out(2, proposal(0, 2, 81)));
-    make(
-        b"slip signs -40",
-        board,
-        cas(1, asking(0), decision(0, 80, 3)),
-    );
-    make(
-        b"slip signs 40",
-        board,
-        cas(1, asking(0), decision(0, 81, 3)),
-    );
-}
-
-// Bottom is not offset 0.
-fn bottom_and_zero() {
-    let bottom = two(field(WORD, DEFINED, 7), field(OFFSET, DEFINED, 0));
-    let zero = two(field(WORD, DEFINED, 7), field(OFFSET, DEFINED, 1));
-    let board = quietly(open(1, 0, 0), out(1, bottom));
-    make(b"slip bottom for 0", board, rdp(1, zero));
-    make(b"slip bottom for bottom", board, rdp(1, bottom));
-}
-
-// A space handed in holds two equal proposals of process 1: they are one process's.
-fn two_proposals() {
-    let mut board = open(4, 1, 2);
-    board.count = 2;
-    board.tuples[0] = proposal(0, 1, 80);
-    board.tuples[1] = proposal(0, 1, 80);
-    make(
-        b"slip two proposals, set 1",
-        board,
-        cas(1, asking(0), decision(0, 80, 1)),
-    );
-    make(
-        b"slip two proposals, set 1 2",
-        board,
-        cas(1, asking(0), decision(0, 80, 3)),
-    );
-}
-
-// A good cas on a decided round is held; a bad one is denied.
-fn decided() {
-    let mut board = open(4, 1, 2);
-    board = quietly(board, out(1, proposal(0, 1, 80)));
-    board = quietly(board, out(2, proposal(0, 2, 80)));
-    board = make(
-        b"slip first cas",
-        board,
-        cas(1, asking(0), decision(0, 80, 3)),
-    );
-    board = make(
-        b"slip good cas again",
-        board,
-        cas(2, asking(0), decision(0, 80, 3)),
-    );
-    make(
-        b"slip bad cas again",
-        board,
-        cas(2, asking(0), decision(0, 80, 1)),
-    );
+    let labels: &[u8] = b"\
+        slip signs -40\n\
+        slip signs 40\n\
+        slip bottom for 0\n\
+        slip bottom for bottom\n\
+        slip two proposals, set 1\n\
+        slip two proposals, set 1 2\n\
+        slip wrapping sum\n\
+        slip first cas\n\
+        slip good cas again\n\
+        slip bad cas again";
+    // 40 and -40 are two offsets.
+    let signs = proposed(80, 81);
+    decide(labels, 1, signs, 1, 80, 3);
+    decide(labels, 2, signs, 1, 81, 3);
+    // Bottom is not offset 0.
+    let blank = Tuple::blank();
+    let bottom = pair(OFFSET, 0);
+    let holds = quiet_out(open(1, 0, 0), 1, bottom);
+    make(labels, 3, holds, 1, RDP, pair(OFFSET, 1), blank);
+    make(labels, 4, holds, 1, RDP, bottom, blank);
+    // A space handed in holds two equal proposals of process 1: they are one process's.
+    let mut board = proposed(80, 80);
+    let mut twice = board;
+    twice.tuples[1] = proposal(1, 80);
+    decide(labels, 5, twice, 1, 80, 1);
+    decide(labels, 6, twice, 1, 80, 3);
+    // 3t + 1 exceeds a u64.
+    set_up(labels, 7, 1, 0x5555_5555_5555_5555);
+    // A good cas on a decided round is held; a bad one is denied.
+    board = decide(labels, 8, board, 1, 80, 3);
+    board = decide(labels, 9, board, 2, 80, 3);
+    decide(labels, 10, board, 2, 80, 1);
 }

@@ -50,5 +50,5 @@ pub repeats : Repeats
 unfolding resumed
 repeats process reply code typed formed decided =
     let sound = rw decided at (formed-parts process .0 formed .1) in
-    let none = none-found (process .found) typed (none-at (process .found) (and-eq-true-iff (foundSound 0 (process .found)) _ .0 sound .0)) in
+    let none = none-found (process .found) typed (none-at (process .config) (process .found) (and-eq-true-iff (foundSound (process .config) 0 (process .found)) _ .0 sound .0)) in
     rw (formed, decided, none)

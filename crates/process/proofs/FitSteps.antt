@@ -6,6 +6,7 @@ use Prim.Native.Nat.{ℕ}
 use types.Run.{OneOf, miss}
 use denote.Enum.Declared.{tagOf}
 use Rattle.process.specs.Fits.{fitsOut, fitsRdp, fitsCas}
+use Rattle.space.specs.declared.config.Config.{Config}
 use Rattle.tuple.specs.declared.field.Tuple.{Tuple}
 use Rattle.tuple.specs.declared.reply.Outcome.{Outcome}
 use Rattle.tuple.specs.declared.reply.Outcome.the-variants.{Done, None, Found, Inserted, Held, Refused}
@@ -25,23 +26,23 @@ out-else tuple (Refused why) other = refl
 abbrev not-rdp : List ℕ
 not-rdp = 0 ∷ 3 ∷ 4 ∷ 5 ∷ []
 
-pub rdp-else : (round asked : ℕ) (tuple : Tuple) (outcome : Outcome) → OneOf not-rdp (tagOf the-type outcome)
-    → false ≡ fitsRdp round asked tuple outcome
-rdp-else round asked tuple Done other = refl
-rdp-else round asked tuple None other = absurd (miss not-rdp 1 tt other)
-rdp-else round asked tuple Found other = absurd (miss not-rdp 2 tt other)
-rdp-else round asked tuple Inserted other = refl
-rdp-else round asked tuple Held other = refl
-rdp-else round asked tuple (Refused why) other = refl
+pub rdp-else : (config : Config) (round asked : ℕ) (tuple : Tuple) (outcome : Outcome) → OneOf not-rdp (tagOf the-type outcome)
+    → false ≡ fitsRdp config round asked tuple outcome
+rdp-else config round asked tuple Done other = refl
+rdp-else config round asked tuple None other = absurd (miss not-rdp 1 tt other)
+rdp-else config round asked tuple Found other = absurd (miss not-rdp 2 tt other)
+rdp-else config round asked tuple Inserted other = refl
+rdp-else config round asked tuple Held other = refl
+rdp-else config round asked tuple (Refused why) other = refl
 
 abbrev not-cas : List ℕ
 not-cas = 0 ∷ 1 ∷ 2 ∷ 5 ∷ []
 
-pub cas-else : (n round : ℕ) (tuple : Tuple) (outcome : Outcome) → OneOf not-cas (tagOf the-type outcome)
-    → false ≡ fitsCas n round tuple outcome
-cas-else n round tuple Done other = refl
-cas-else n round tuple None other = refl
-cas-else n round tuple Found other = refl
-cas-else n round tuple Inserted other = absurd (miss not-cas 3 tt other)
-cas-else n round tuple Held other = absurd (miss not-cas 4 tt other)
-cas-else n round tuple (Refused why) other = refl
+pub cas-else : (config : Config) (round : ℕ) (tuple : Tuple) (outcome : Outcome) → OneOf not-cas (tagOf the-type outcome)
+    → false ≡ fitsCas config round tuple outcome
+cas-else config round tuple Done other = refl
+cas-else config round tuple None other = refl
+cas-else config round tuple Found other = refl
+cas-else config round tuple Inserted other = absurd (miss not-cas 3 tt other)
+cas-else config round tuple Held other = absurd (miss not-cas 4 tt other)
+cas-else config round tuple (Refused why) other = refl

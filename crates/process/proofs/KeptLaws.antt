@@ -1,11 +1,11 @@
 -- Starting a process, and handing a well-formed state a fitting reply, give a well-formed state. From the laws of states.
 use mathlib.Core.Path.{_≡_, refl, sym, _∙_}
+use mathlib.Core.Logic.{inl, inr}
 use mathlib.Core.Bool.{true, false≢true, _&&_, or-true, and-eq-true-iff}
 use mathlib.Core.List.{List}
 use Prim.Native.Nat.{ℕ, suc, _-_, _≤_, _<_}
 use native.Mathlib.Omega.{arith}
 use lib.ListN.{length, set, length-set}
-use borrow.Author.Tests.{le-leb}
 use borrow.Table.Steps.{cases}
 use Rattle.process.specs.declared.process.Next.the-variants.{Calls}
 use Rattle.process.specs.declared.process.Phase.{Phase}
@@ -13,22 +13,21 @@ use Rattle.process.specs.declared.process.Phase.the-variants.{Proposing,
 use Rattle.process.specs.declared.process.Process.{Process}
 use Rattle.process.specs.Fits.{fitsRdp, fitsCas, fitsIn, fits}
 use Rattle.process.specs.Procedure.{proposable, begun, started, turned, noted, readOn, valueOf, decides, advanced, resumed}
-use Rattle.process.specs.States.{noneFound, startable, known, codeSound, foundSound, phaseSound, wellFormed}
+use Rattle.process.specs.States.{noneFound, startable, codeSound, foundSound, phaseSound, wellFormed}
 use Rattle.process.specs.Tallies.{backed, settled, nextAfter}
-use Rattle.process.proofs.FitLaws.{answer-rule, value-small}
+use Rattle.process.proofs.FitLaws.{answer-rule, value-decidable}
 use Rattle.process.proofs.NextLaws.{next-rules}
-use Rattle.process.proofs.StateLaws.{Same, Codes, Reads, Late, Decides, startable-parts, formed-parts, none-at, code-small, codes-set, put-back, reading-rule, deciding-rule, some-free, unsettled-few, none-unsettled, backed-small}
+use Rattle.process.proofs.StateLaws.{Same, Codes, Reads, Late, Decides, startable-parts, formed-parts, none-at, codes-set, put-back, reading-rule, deciding-rule, some-free, unsettled-few, none-unsettled, backed-decidable}
 use Rattle.space.specs.declared.config.Config.{Config}
-use Rattle.space.specs.Configs.{processes}
-use Rattle.space.specs.Proposals.{offsetOf}
-use Rattle.space.specs.Shapes.{inRounds}
-use Rattle.space.proofs.PolicyLaws.{small-offset}
+use Rattle.space.specs.Bounds.{processes}
+use Rattle.space.specs.Configs.{known}
+use Rattle.space.specs.Proposals.{decidable}
+use Rattle.space.specs.Shapes.{proposedCode, inRounds}
 use Rattle.tuple.specs.declared.field.Tuple.{Tuple}
 use Rattle.tuple.specs.declared.offset.Offset.{Offset}
 use Rattle.tuple.specs.declared.reply.Outcome.{Outcome}
 use Rattle.tuple.specs.declared.reply.Outcome.the-variants.{Done, None, Found, Inserted, Held, Refused}
 use Rattle.tuple.specs.declared.reply.Reply.{Reply}
-use Rattle.tuple.specs.Offsets.{largestCode}
 
 -- ---- the next state is well formed
 
@@ -36,16 +35,16 @@ use Rattle.tuple.specs.Offsets.{largestCode}
 abbrev pub Kept : Process → Type 0
 Kept p = (wellFormed p ≡ true) × (length (p .found) ≡ processes)
 
-pub none-sound : foundSound 0 noneFound ≡ true
+pub none-sound : (config : Config) → foundSound config 0 noneFound ≡ true
 unfolding foundSound codeSound
-none-sound = refl
+none-sound config = refl
 
 module _ (p : Process) (same : Same (p .config) (p .process) (p .round)) where
   kept : (phase : Phase) (found : List ℕ) → length found ≡ processes → phaseSound (p .config) found phase ≡ true → Kept (turned p phase found)
   kept phase found typed sound = (formed-parts (turned p phase found) .1 (same, sound), typed)
 
   -- it reads on, or stops at the last reading
-  read-on : (found : List ℕ) (asked : ℕ) → length found ≡ processes → Codes (p .config .n) found → asked ≤ p .config .n
+  read-on : (found : List ℕ) (asked : ℕ) → length found ≡ processes → Codes (p .config) (p .config .n) found → asked ≤ p .config .n
       → (settled (p .config) found ≡ true → Late (p .config) found (p .config .n)) → Kept (readOn p found asked .process)
   read-on found asked typed codes most late =
       let start = startable-parts (p .config) (same .start) in
@@ -61,26 +60,25 @@ module _ (p : Process) (same : Same (p .config) (p .process) (p .round)) where
       (record { codes = codes; least = next .some; most = next .few; free = next .free; unsettled = e }))))
 
   -- inserted or held after cas
-  kept-decided : (code : ℕ) → code ≤ largestCode → Kept (decides p code .process)
-  kept-decided code small = kept (Decided code) noneFound refl (rw (none-sound, le-leb code largestCode small))
+  kept-decided : (code : ℕ) → decidable (p .config) code ≡ true → Kept (decides p code .process)
+  kept-decided code may = kept (Decided code) noneFound refl (rw (none-sound (p .config), may))
 
-  kept-deciding : (tuple : Tuple) (outcome : Outcome) → Decides (p .config) (p .found) → fitsCas (p .config .n) (p .round) tuple outcome ≡ true
+  kept-deciding : (tuple : Tuple) (outcome : Outcome) → Decides (p .config) (p .found) → fitsCas (p .config) (p .round) tuple outcome ≡ true
       → Kept (decides p (valueOf (backed (p .config .t) (p .found)) tuple outcome) .process)
-  unfolding backed
   kept-deciding tuple outcome d fit =
-      let small = backed-small largestCode (p .config .t) (p .found) (p .found) (code-small (d .codes)) in
-      kept-decided (valueOf (backed (p .config .t) (p .found)) tuple outcome) (value-small (p .config .n) (p .round) _ tuple outcome small fit)
+      let own = backed-decidable (p .config) (p .found) (startable-parts (p .config) (same .start) .policy) (d .codes) in
+      kept-decided (valueOf (backed (p .config .t) (p .found)) tuple outcome) (value-decidable (p .config) (p .round) _ tuple outcome own fit)
 
   module _ (typed : length (p .found) ≡ processes) where
     -- done after out
-    kept-proposing : foundSound 0 (p .found) ≡ true → Kept (turned p (Reading 1) (p .found))
+    kept-proposing : foundSound (p .config) 0 (p .found) ≡ true → Kept (turned p (Reading 1) (p .found))
     kept-proposing h =
         let start = startable-parts (p .config) (same .start) in
-        let none = none-at (p .found) h in
+        let none = none-at (p .config) (p .found) h in
         kept (Reading 1) (p .found) typed
         (reading-rule (p .config) (p .found) 1 .1
         (record {
-          codes = record { used = λ j below. omega (arith, none j); unused = λ j behind. none j };
+          codes = record { used = λ j below. inl (none j); unused = λ j behind. none j };
           least = omega arith;
           most = start .some;
           free = none 0;
@@ -88,24 +86,23 @@ module _ (p : Process) (same : Same (p .config) (p .process) (p .round)) where
         }))
 
     -- none, or a proposal, after rdp
-    kept-reading : (asked : ℕ) (tuple : Tuple) (outcome : Outcome) → Reads (p .config) (p .found) asked → fitsRdp (p .round) asked tuple outcome ≡ true
+    kept-reading : (asked : ℕ) (tuple : Tuple) (outcome : Outcome) → Reads (p .config) (p .found) asked → fitsRdp (p .config) (p .round) asked tuple outcome ≡ true
         → Kept (readOn p (noted (p .found) asked tuple outcome) asked .process)
     kept-reading asked tuple Done r h = absurd (false≢true h)
     kept-reading asked tuple None r h = read-on (p .found) asked typed (r .codes) (r .most) (λ e. absurd (false≢true (sym (r .unsettled) ∙ e)))
     kept-reading asked tuple Found r h =
         let start = startable-parts (p .config) (same .start) in
-        let answer = answer-rule (p .round) asked tuple .0 h in
-        let small = small-offset tuple (answer .entry) (answer .shape) in
+        let answer = answer-rule (p .config) (p .round) asked tuple .0 h in
         let below : asked - 1 < p .config .n = omega (arith, r .least, r .most) in
-        let back = rw (r .free) at (put-back (p .found) (asked - 1) (offsetOf tuple)) in
-        read-on (set (p .found) (asked - 1) (offsetOf tuple)) asked (rw length-set typed)
-        (codes-set (r .codes) (asked - 1) (offsetOf tuple) below (omega arith) small) (r .most)
+        let back = rw (r .free) at (put-back (p .found) (asked - 1) (proposedCode tuple)) in
+        read-on (set (p .found) (asked - 1) (proposedCode tuple)) asked (rw length-set typed)
+        (codes-set (r .codes) (asked - 1) (proposedCode tuple) below (omega arith) (inr (answer .may))) (r .most)
         (λ e. (asked - 1, below, rw back (r .unsettled)))
     kept-reading asked tuple Inserted r h = absurd (false≢true h)
     kept-reading asked tuple Held r h = absurd (false≢true h)
     kept-reading asked tuple (Refused why) r h = absurd (false≢true h)
 
-    advanced-kept : (reply : Reply) (phase : Phase) → phaseSound (p .config) (p .found) phase ≡ true → fitsIn (p .config .n) (p .round) reply phase ≡ true
+    advanced-kept : (reply : Reply) (phase : Phase) → phaseSound (p .config) (p .found) phase ≡ true → fitsIn (p .config) (p .round) reply phase ≡ true
         → Kept (advanced p reply phase .process)
     advanced-kept reply Proposing sound fit = kept-proposing sound
     advanced-kept reply (Reading asked) sound fit =
@@ -127,7 +124,7 @@ resumed-formed p reply typed formed fit =
 
 -- ---- the first state is well formed
 
-pub started-begun : (config : Config) (process round : ℕ) (offset : Offset) → Same config process round → proposable offset ≡ true
+pub started-begun : (config : Config) (process round : ℕ) (offset : Offset) → Same config process round → proposable config offset ≡ true
     → started config process round offset ≡ begun config process round offset
 unfolding started
 started-begun config process round offset same some = rw (same .start, same .member, same .in-rounds, some)
@@ -138,10 +135,10 @@ unfolding started
 started-formed config process round offset =
     cases (startable config)
     (λ start. cases (known config process)
-    (λ member. cases (inRounds round && proposable offset)
+    (λ member. cases (inRounds round && proposable config offset)
     (λ both. rw (start, member, both) (λ calls. (
       formed-parts (begun config process round offset .process) .1
-          (record { start = start; member = member; in-rounds = and-eq-true-iff (inRounds round) _ .0 both .0 }, none-sound),
+          (record { start = start; member = member; in-rounds = and-eq-true-iff (inRounds round) _ .0 both .0 }, none-sound config),
       refl,
     )))
     (λ e. rw (start, member, e) (λ calls. let z : _≡_ {A = ℕ} 0 1 = cc in absurd (omega arith))))

@@ -9,7 +9,7 @@ use denote.Array.{Array}
 use denote.Laws.{Is}
 use denote.Plain.{UInt}
 use borrow.Kind.Array.{eInt, good-length}
-use Rattle.space.specs.Configs.{processes}
+use Rattle.space.specs.Bounds.{processes}
 
 pub all-places : (found : List ℕ) (vs : List Val) → Is (Array (UInt w64) processes) found vs → length found ≡ processes
 all-places found vs g = good-length (eInt w64) processes found vs g

@@ -1,4 +1,5 @@
 pub mod AnswerLaws
+pub mod CodeLaws
 pub mod FitLaws
 mod FitSteps
 pub mod KeptLaws

@@ -16,24 +16,25 @@ use Rattle.process.specs.declared.process.Phase.the-variants.{Proposing,
 use Rattle.process.specs.declared.process.Process.{Process}
 use Rattle.process.specs.Asks.{proposal, decisionEntry}
 use Rattle.process.specs.Fits.{fits}
-use Rattle.process.specs.Laws.{Reachable, starts, resumes, ReachableRule, NextRule}
+use Rattle.process.specs.Laws.{ReachableRule, NextRule}
 use Rattle.process.specs.Procedure.{readOn, advanced}
+use Rattle.process.specs.Reachable.{Reachable, starts, resumes}
 use Rattle.process.specs.States.{noneFound, foundSound, phaseSound}
 use Rattle.process.specs.Tallies.{foundOf, backs, backing, settled, nextAfter}
 use Rattle.process.proofs.FitLaws.{proposal-answers, decision-held}
 use Rattle.process.proofs.KeptLaws.{Kept, resumed-advanced, resumed-formed, started-begun, started-formed}
 use Rattle.process.proofs.NextLaws.{next-rules}
-use Rattle.process.proofs.StateLaws.{Startable, Same, Codes, Reads, Decides, startable-parts, formed-parts, none-at, none-found, code-small, codes-set, put-back, reading-rule, deciding-rule, unsettled-few}
+use Rattle.process.proofs.StateLaws.{Startable, Same, Codes, Reads, Decides, startable-parts, formed-parts, none-at, none-found, code-noted, codes-set, put-back, reading-rule, deciding-rule, unsettled-few}
 use Rattle.process.proofs.TallyLaws.{Part, settled-part}
 use Rattle.space.specs.declared.config.Config.{Config}
-use Rattle.space.specs.Configs.{processes, rounds}
-use Rattle.space.specs.Proposals.{bottom}
+use Rattle.space.specs.Bounds.{processes, rounds}
+use Rattle.space.specs.Proposals.{offered, decidable}
 use Rattle.tuple.specs.declared.offset.Offset.the-variants.{Hundredths}
 use Rattle.tuple.specs.declared.reply.Outcome.the-variants.{Done, None, Found, Held}
 use Rattle.tuple.specs.declared.reply.Reply.{Reply}
 use Rattle.tuple.specs.Faults.{isBlank, placeBlank, restFrom, restBlank}
 use Rattle.tuple.specs.Fields.{blankTuple}
-use Rattle.tuple.specs.Offsets.{largestCode}
+use Rattle.tuple.specs.Offsets.{bottom}
 
 -- ---- what is reached is well formed, and goes on
 
@@ -94,13 +95,13 @@ module _ (config : Config) (process round : ℕ) where
   pass r = rw (reached r .reads .unsettled) at (advance (record { outcome = None; tuple = blankTuple }) r refl)
 
   -- a reading with this answer
-  find : {asked : ℕ} {found : List ℕ} (code : ℕ) → (code ≡ bottom → ⊥) → code ≤ largestCode → Reachable (state (Reading asked) found)
+  find : {asked : ℕ} {found : List ℕ} (code : ℕ) → offered config code ≡ true → Reachable (state (Reading asked) found)
       → Reachable (readOn (state (Reading asked) found) (set found (asked - 1) code) asked .process)
   unfolding fits
-  find {asked} code some small r =
+  find {asked} code may r =
       let at = reached r in
       advance (record { outcome = Found; tuple = proposal round asked code }) r
-      (proposal-answers round asked code (omega (arith, at .in-rounds)) (omega (arith, at .reads .most, at .start .few)) some small)
+      (proposal-answers config round asked code (omega (arith, at .in-rounds)) (omega (arith, at .reads .most, at .start .few)) may)
 
   -- ---- from one reading to each other, without an answer
 
@@ -142,7 +143,7 @@ module _ (config : Config) (process round : ℕ) where
 
   -- ---- the last process found
 
-  module _ {found : List ℕ} (typed : length found ≡ processes) (start : Startable config) (codes : Codes (config .n) found)
+  module _ {found : List ℕ} (typed : length found ≡ processes) (start : Startable config) (codes : Codes config (config .n) found)
       (j : ℕ) (some : getD found j 0 ≡ 0 → ⊥)
     where
       below : j < config .n
@@ -154,7 +155,7 @@ module _ (config : Config) (process round : ℕ) where
           let here : j + 1 - 1 ≡ j = omega arith in
           let few = below in
           record {
-            codes = codes-set codes j 0 few (omega arith) (omega arith);
+            codes = codes-set codes j 0 few (omega arith) (inl refl);
             least = omega arith;
             most = omega arith;
             free = rw here (getD-set-same found j 0 0 (omega arith));
@@ -164,12 +165,14 @@ module _ (config : Config) (process round : ℕ) where
       found-last : Reachable (state (Reading (j + 1)) (set found j 0)) → Reachable (readOn (state (Reading (j + 1)) (set found j 0)) found (j + 1) .process)
       found-last r =
           let here : j + 1 - 1 ≡ j = omega arith in
-          rw (here, put-back found j 0) at (find (getD found j 0) some (code-small codes j) r)
+          let may : offered config (getD found j 0) ≡ true = ⊎-elim (λ none. absurd (some none)) (λ may. may) (code-noted codes j) in
+          rw (here, put-back found j 0) at (find (getD found j 0) may r)
 
   -- ---- each well-formed state
 
   module _ (same : Same config process round) where
     reach-proposing : Reachable (state Proposing noneFound)
+    unfolding offered
     reach-proposing =
         let begins = started-begun config process round (Hundredths (pos 0)) same refl in
         rw begins at (starts config process round (Hundredths (pos 0)) (rw begins))
@@ -212,10 +215,11 @@ module _ (config : Config) (process round : ℕ) where
     -- one offset found again and again ends the reading
     ends : (m : ℕ) {asked : ℕ} {found : List ℕ} → config .n < backing bottom found + m → Reachable (state (Reading asked) found)
         → (last : List ℕ) × Reachable (state Deciding last)
+    unfolding offered
     ends zero {asked} {found} enough r = absurd (omega (arith, unsettled-few config found (reached r .reads .unsettled)))
     ends (suc m) {asked} {found} enough r =
         let at = reached r in
-        let next = find 1 (λ e. omega arith) (omega arith) r in
+        let next = find 1 refl r in
         let more = set found (asked - 1) 1 in
         let one : getD more (asked - 1) 0 ≡ 1 =
         getD-set-same found (asked - 1) 1 0 (omega (arith, at .typed, at .start .few, at .reads .most)) in
@@ -223,19 +227,19 @@ module _ (config : Config) (process round : ℕ) where
         rw (rw (at .reads .free) at (put-back found (asked - 1) 1)) at (backing-without more (asked - 1) (λ none. omega arith)) in
         cases (settled config more) (λ e. (more, rw e at next)) (λ e. ends m (omega arith) (rw e at next))
 
-    reach-decided : (code : ℕ) → code ≤ largestCode → Reachable (state (Decided code) noneFound)
+    reach-decided : (code : ℕ) → decidable config code ≡ true → Reachable (state (Decided code) noneFound)
     unfolding fits
-    reach-decided code small =
+    reach-decided code may =
         advance (record { outcome = Held; tuple = decisionEntry round code 0 }) (ends (config .n + 1) (omega arith) reach-first .1)
-        (decision-held (config .n) round code (omega (arith, ltb-true round rounds (same .in-rounds))) small)
+        (decision-held config round code (omega (arith, ltb-true round rounds (same .in-rounds))) may)
 
     reach : (phase : Phase) (found : List ℕ) → length found ≡ processes → phaseSound config found phase ≡ true → Reachable (state phase found)
-    reach Proposing found typed sound = rw (none-found found typed (none-at found sound)) reach-proposing
+    reach Proposing found typed sound = rw (none-found found typed (none-at config found sound)) reach-proposing
     reach (Reading asked) found typed sound = reach-reading (backing bottom found + 1) found asked typed (omega arith) (reading-rule config found asked .0 sound)
     reach Deciding found typed sound = reach-deciding found typed (deciding-rule config found .0 sound)
     reach (Decided code) found typed sound =
-        let parts = and-eq-true-iff (foundSound 0 found) _ .0 sound in
-        rw (none-found found typed (none-at found (parts .0))) (reach-decided code (leb-true _ _ (parts .1)))
+        let parts = and-eq-true-iff (foundSound config 0 found) _ .0 sound in
+        rw (none-found found typed (none-at config found (parts .0))) (reach-decided code (parts .1))
 
 pub reachable-rule : ReachableRule
 reachable-rule p typed = (

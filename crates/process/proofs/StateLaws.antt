@@ -1,7 +1,7 @@
 -- What a well-formed state is, in each phase, and what its tallies then say. From the tests of states and the tallies' laws.
 use mathlib.Core.Path.{_≡_, refl, sym, _∙_}
-use mathlib.Core.Logic.{_↔_, inl, inr, ⊎-elim}
-use mathlib.Core.Bool.{true, false, false≢true, not, and-eq-true-iff}
+use mathlib.Core.Logic.{_↔_, _⊎_, inl, inr, ⊎-elim}
+use mathlib.Core.Bool.{true, false, false≢true, not, or-false, and-eq-true-iff}
 use mathlib.Core.List.{List, [], _∷_}
 use Prim.Native.Nat.{ℕ, zero, suc, _+_, _-_, _*_, _≤_, _<_}
 use native.Mathlib.Omega.{arith}
@@ -11,15 +11,17 @@ use lib.Seq.{getD-set-same, getD-set-other, set-set, set-getD, ext-getD}
 use borrow.Author.Tests.{eqb-true, eqb-false, eq-eqb, leb-true, leb-false, le-leb, not-true}
 use borrow.Table.Steps.{cases}
 use Rattle.process.specs.declared.process.Process.{Process}
-use Rattle.process.specs.States.{noneFound, startable, known, codeSound, foundSound, lastEnds, readingSound, decidingSound, phaseSound, wellFormed}
-use Rattle.process.specs.Tallies.{foundOf, backs, backing, isBacked, backedOf, settled}
-use Rattle.process.proofs.TallyLaws.{settled-rule, backing-part}
+use Rattle.process.specs.States.{noneFound, startable, codeSound, foundSound, lastEnds, readingSound, decidingSound, phaseSound, wellFormed}
+use Rattle.process.specs.Tallies.{foundOf, backs, backing, isBacked, backedOf, backed, settled}
+use Rattle.process.proofs.CodeLaws.{offered-decidable, bottom-decidable}
+use Rattle.process.proofs.TallyLaws.{is-backed-rule, reading-ends, settled-rule, backing-part}
 use Rattle.space.specs.declared.config.Config.{Config}
-use Rattle.space.specs.Configs.{processes, sound}
-use Rattle.space.specs.Proposals.{bottom}
+use Rattle.space.specs.Bounds.{processes}
+use Rattle.space.specs.Configs.{sound, known}
+use Rattle.space.specs.Proposals.{offered, decidable}
 use Rattle.space.specs.Shapes.{inRounds}
 use Rattle.space.proofs.ConfigLaws.{sound-rule}
-use Rattle.tuple.specs.Offsets.{largestCode}
+use Rattle.tuple.specs.Offsets.{bottom}
 
 -- ---- the parts of a well-formed state
 
@@ -64,50 +66,67 @@ formed-parts p = (
 
 -- ---- what is found, place by place
 
-pub record Codes (n : ℕ) (found : List ℕ) : Type 0 where
-  pub used : (j : ℕ) → j < n → getD found j 0 ≤ largestCode
+-- a process that is not found, or is found with an offset that may be proposed
+abbrev pub Noted : Config → ℕ → Type 0
+Noted config code = (code ≡ 0) ⊎ (offered config code ≡ true)
+
+unused-rule : (config : Config) (code : ℕ) → (codeSound config code false ≡ true) ↔ (code ≡ 0)
+unfolding codeSound
+unused-rule config code = rw or-false (λ h. eqb-true code 0 h, λ none. eq-eqb code 0 none)
+
+used-rule : (config : Config) (code : ℕ) → (codeSound config code true ≡ true) ↔ Noted config code
+unfolding codeSound
+used-rule config code = (
+  λ h. cases (eqb code 0) (λ e. inl (eqb-true code 0 e)) (λ e. inr (rw e at h)),
+  λ noted. ⊎-elim (λ none. rw (eq-eqb code 0 none)) (λ may. cases (eqb code 0) (λ e. rw e) (λ e. rw e may)) noted,
+)
+
+pub record Codes (config : Config) (n : ℕ) (found : List ℕ) : Type 0 where
+  pub used : (j : ℕ) → j < n → Noted config (getD found j 0)
   pub unused : (j : ℕ) → n ≤ j → getD found j 0 ≡ 0
 
-pub codes-rule : (n : ℕ) (found : List ℕ) → (foundSound n found ≡ true) ↔ Codes n found
-unfolding foundSound codeSound
-codes-rule n [] = (λ h. record { used = λ j below. omega arith; unused = λ j behind. refl }, λ each. refl)
-codes-rule zero (code ∷ found) =
-    let rest = codes-rule zero found in (
-      λ h. let parts = and-eq-true-iff (eqb code 0) _ .0 h in
+pub codes-rule : (config : Config) (n : ℕ) (found : List ℕ) → (foundSound config n found ≡ true) ↔ Codes config n found
+unfolding foundSound
+codes-rule config n [] = (λ h. record { used = λ j below. inl refl; unused = λ j behind. refl }, λ each. refl)
+codes-rule config zero (code ∷ found) =
+    let first = unused-rule config code in
+    let rest = codes-rule config zero found in (
+      λ h. let parts = and-eq-true-iff (codeSound config code false) _ .0 h in
           record {
             used = λ j below. absurd (omega arith);
-            unused = elim [ zero ↦ λ behind. eqb-true code 0 (parts .0) | suc j ↦ λ behind. rest .0 (parts .1) .unused j (omega arith) ];
+            unused = elim [ zero ↦ λ behind. first .0 (parts .0) | suc j ↦ λ behind. rest .0 (parts .1) .unused j (omega arith) ];
           },
-      λ each. rw (eq-eqb code 0 (each .unused 0 (omega arith)))
+      λ each. rw (first .1 (each .unused 0 (omega arith)))
           (rest .1 (record { used = λ j below. absurd (omega arith); unused = λ j behind. each .unused (suc j) (omega arith) })),
     )
-codes-rule (suc n) (code ∷ found) =
-    let rest = codes-rule n found in (
-      λ h. let parts = and-eq-true-iff (leb code largestCode) _ .0 h in
+codes-rule config (suc n) (code ∷ found) =
+    let first = used-rule config code in
+    let rest = codes-rule config n found in (
+      λ h. let parts = and-eq-true-iff (codeSound config code true) _ .0 h in
           record {
-            used = elim [ zero ↦ λ below. leb-true code largestCode (parts .0) | suc j ↦ λ below. rest .0 (parts .1) .used j (omega arith) ];
+            used = elim [ zero ↦ λ below. first .0 (parts .0) | suc j ↦ λ below. rest .0 (parts .1) .used j (omega arith) ];
             unused = elim [ zero ↦ λ behind. absurd (omega arith) | suc j ↦ λ behind. rest .0 (parts .1) .unused j (omega arith) ];
           },
-      λ each. rw (le-leb code largestCode (each .used 0 (omega arith)))
+      λ each. rw (first .1 (each .used 0 (omega arith)))
           (rest .1 (record { used = λ j below. each .used (suc j) (omega arith); unused = λ j behind. each .unused (suc j) (omega arith) })),
     )
 
 -- before it reads, and after it has decided
-pub none-at : (found : List ℕ) → foundSound 0 found ≡ true → (j : ℕ) → getD found j 0 ≡ 0
-none-at found none j = codes-rule 0 found .0 none .unused j (omega arith)
+pub none-at : (config : Config) (found : List ℕ) → foundSound config 0 found ≡ true → (j : ℕ) → getD found j 0 ≡ 0
+none-at config found none j = codes-rule config 0 found .0 none .unused j (omega arith)
 
 pub none-found : (found : List ℕ) → length found ≡ processes → ((j : ℕ) → getD found j 0 ≡ 0) → found ≡ noneFound
 none-found found typed none = ext-getD 0 found noneFound typed (λ j below. none j ∙ sym (getD-replicate processes j 0 0 (omega arith)))
 
-module _ {n : ℕ} {found : List ℕ} (codes : Codes n found) where
-  pub code-small : (j : ℕ) → getD found j 0 ≤ largestCode
-  code-small j = cases (leb n j) (λ e. omega (arith, codes .unused j (leb-true n j e))) (λ e. codes .used j (omega (arith, leb-false n j e)))
+module _ {config : Config} {n : ℕ} {found : List ℕ} (codes : Codes config n found) where
+  pub code-noted : (j : ℕ) → Noted config (getD found j 0)
+  code-noted j = cases (leb n j) (λ e. inl (codes .unused j (leb-true n j e))) (λ e. codes .used j (leb-false n j e))
 
-  pub codes-set : (j code : ℕ) → j < n → n ≤ length found → code ≤ largestCode → Codes n (set found j code)
-  codes-set j code below typed small =
+  pub codes-set : (j code : ℕ) → j < n → n ≤ length found → Noted config code → Codes config n (set found j code)
+  codes-set j code below typed noted =
       record {
         used = λ i few. cases (eqb i j)
-            (λ e. rw (eqb-true i j e, getD-set-same found j code 0 (omega arith)) small)
+            (λ e. rw (eqb-true i j e, getD-set-same found j code 0 (omega arith)) noted)
             (λ e. rw (getD-set-other found j i code 0 (eqb-false i j e)) (codes .used i few));
         unused = λ i behind. getD-set-other found j i code 0 (λ e. omega arith) ∙ codes .unused i behind;
       }
@@ -119,7 +138,7 @@ put-back found j code = set-set found j code (getD found j 0) ∙ set-getD found
 -- ---- what is found in each phase
 
 pub record Reads (config : Config) (found : List ℕ) (asked : ℕ) : Type 0 where
-  pub codes : Codes (config .n) found
+  pub codes : Codes config (config .n) found
   pub least : 1 ≤ asked
   pub most : asked ≤ config .n
   pub free : foundOf found asked ≡ 0
@@ -128,12 +147,12 @@ pub record Reads (config : Config) (found : List ℕ) (asked : ℕ) : Type 0 whe
 pub reading-rule : (config : Config) (found : List ℕ) (asked : ℕ) → (readingSound config found asked ≡ true) ↔ Reads config found asked
 unfolding readingSound
 reading-rule config found asked =
-    let codes = codes-rule (config .n) found in
+    let codes = codes-rule config (config .n) found in
     let member = known-rule config asked in (
       λ h.
           let unsettled = and-eq-true-iff _ (not (settled config found)) .0 h in
           let free = and-eq-true-iff _ (eqb (foundOf found asked) 0) .0 (unsettled .0) in
-          let parts = and-eq-true-iff (foundSound (config .n) found) _ .0 (free .0) in
+          let parts = and-eq-true-iff (foundSound config (config .n) found) _ .0 (free .0) in
           let range = member .0 (parts .1) in
           record { codes = codes .0 (parts .0); least = range .0; most = range .1; free = eqb-true _ _ (free .1); unsettled = not-true _ (unsettled .1) },
       λ r. rw (codes .1 (r .codes), member .1 (r .least, r .most), eq-eqb _ _ (r .free), r .unsettled),
@@ -159,18 +178,18 @@ last-ends-rule config found (suc k) =
     )
 
 pub record Decides (config : Config) (found : List ℕ) : Type 0 where
-  pub codes : Codes (config .n) found
+  pub codes : Codes config (config .n) found
   pub enough : settled config found ≡ true
   pub late : Late config found (config .n)
 
 pub deciding-rule : (config : Config) (found : List ℕ) → (decidingSound config found ≡ true) ↔ Decides config found
 unfolding decidingSound
 deciding-rule config found =
-    let codes = codes-rule (config .n) found in
+    let codes = codes-rule config (config .n) found in
     let late = last-ends-rule config found (config .n) in (
       λ h.
           let last = and-eq-true-iff _ (lastEnds config found (config .n)) .0 h in
-          let parts = and-eq-true-iff (foundSound (config .n) found) _ .0 (last .0) in
+          let parts = and-eq-true-iff (foundSound config (config .n) found) _ .0 (last .0) in
           record { codes = codes .0 (parts .0); enough = parts .1; late = late .0 (last .1) },
       λ d. rw (codes .1 (d .codes), d .enough, late .1 (d .late)),
     )
@@ -189,7 +208,7 @@ some-free (suc n) (code ∷ found) typed few =
 pub unsettled-few : (config : Config) (found : List ℕ) → settled config found ≡ false → backing bottom found < config .n - config .t
 unsettled-few config found unsettled =
     cases (leb (config .n - config .t) (backing bottom found))
-    (λ e. absurd (false≢true (sym unsettled ∙ settled-rule config found .1 (inr (leb-true _ _ e)))))
+    (λ e. absurd (false≢true (sym unsettled ∙ reading-ends config found (leb-true _ _ e))))
     (λ e. leb-false _ _ e)
 
 -- it reads on while nothing is found
@@ -201,9 +220,16 @@ none-unsettled config found start none =
     (λ e. ⊎-elim (λ some. absurd (omega (arith, some .2, nothing (some .0)))) (λ many. absurd (omega (arith, nothing bottom))) (settled-rule config found .0 e))
     (λ e. e)
 
--- the value of its cas is one of the codes found, or bottom
-pub backed-small : (most t : ℕ) (found rest : List ℕ) → ((j : ℕ) → getD rest j 0 ≤ most) → backedOf t found rest ≤ most
-unfolding backedOf
-backed-small most t found [] small = omega arith
-backed-small most t found (code ∷ rest) small =
-    cases (isBacked t found code) (λ e. rw e (small 0)) (λ e. rw e (backed-small most t found rest (λ j. small (suc j))))
+-- the value of its cas, an offset found or bottom, may be decided
+module _ (config : Config) (found : List ℕ) (default : config .policy ≡ 2) where
+  backed-of : (rest : List ℕ) → ((j : ℕ) → Noted config (getD rest j 0)) → decidable config (backedOf (config .t) found rest) ≡ true
+  unfolding backedOf
+  backed-of [] noted = bottom-decidable config default
+  backed-of (code ∷ rest) noted =
+      cases (isBacked (config .t) found code)
+      (λ e. rw e (⊎-elim (λ none. absurd (is-backed-rule (config .t) found code .0 e .0 none)) (λ may. offered-decidable config code may) (noted 0)))
+      (λ e. rw e (backed-of rest (λ j. noted (suc j))))
+
+  pub backed-decidable : {n : ℕ} → Codes config n found → decidable config (backed (config .t) found) ≡ true
+  unfolding backed
+  backed-decidable codes = backed-of found (code-noted codes)

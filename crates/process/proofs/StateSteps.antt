@@ -6,10 +6,9 @@ use mathlib.Core.List.{List, [], _∷_}
 use Prim.Native.Nat.{ℕ, suc, _+_, _-_, _≤_, _<_}
 use native.Mathlib.Omega.{arith}
 use lib.ListN.{length, drop, getD, set}
-use lib.Dec.{leb, ltb}
+use lib.Dec.{ltb}
 use types.Run.{OneOf, miss}
 use denote.Enum.Declared.{tagOf}
-use borrow.Author.Tests.{leb-true}
 use Rattle.process.specs.declared.process.Phase.{Phase}
 use Rattle.process.specs.declared.process.Phase.the-variants.{Proposing, Reading, Deciding, Decided}
 use Rattle.process.specs.declared.process.Process.{Process}
@@ -18,16 +17,17 @@ use Rattle.process.specs.Procedure.{noted, valueOf, isDecided}
 use Rattle.process.specs.States.{startable, codeSound, foundSound, lastEnds, wellFormed}
 use Rattle.process.specs.Tallies.{backed, settled}
 use Rattle.process.proofs.process.Phase as phase
-use Rattle.process.proofs.FitLaws.{value-small}
-use Rattle.process.proofs.StateLaws.{formed-parts, reading-rule, deciding-rule, backed-small, code-small}
+use Rattle.process.proofs.FitLaws.{value-decidable}
+use Rattle.process.proofs.StateLaws.{startable-parts, formed-parts, reading-rule, deciding-rule, backed-decidable}
 use Rattle.space.specs.declared.config.Config.{Config}
-use Rattle.space.specs.Configs.{processes, sound}
+use Rattle.space.specs.Bounds.{processes}
+use Rattle.space.specs.Configs.{sound}
+use Rattle.space.specs.Proposals.{decidable}
 use Rattle.space.proofs.ConfigLaws.{sound-rule}
 use Rattle.tuple.specs.declared.field.Tuple.{Tuple}
 use Rattle.tuple.specs.declared.reply.Outcome.{Outcome}
 use Rattle.tuple.specs.declared.reply.Outcome.the-variants.{Done, None, Found, Inserted, Held, Refused}
 use Rattle.tuple.specs.declared.reply.Reply.{Reply}
-use Rattle.tuple.specs.Offsets.{largestCode}
 use Rattle.tuple.proofs.reply.Outcome as outcome
 use Rattle.tuple.proofs.Lists.{places-more, places-stop}
 
@@ -42,18 +42,18 @@ startable-sound config h = and-eq-true-iff (sound config) _ .0 h .0
 
 -- ---- the places
 
-module _ (n : ℕ) (found : List ℕ) (i : ℕ) (h : i < length found) where
-  pub found-more : codeSound (getD found i 0) (ltb i n) ≡ true → foundSound (n - (i + 1)) (drop (i + 1) found) ≡ foundSound (n - i) (drop i found)
+module _ (config : Config) (n : ℕ) (found : List ℕ) (i : ℕ) (h : i < length found) where
+  pub found-more : codeSound config (getD found i 0) (ltb i n) ≡ true → foundSound config (n - (i + 1)) (drop (i + 1) found) ≡ foundSound config (n - i) (drop i found)
   unfolding foundSound
-  found-more = places-more codeSound foundSound (λ code l. refl) (λ n code l. refl) n found i 0 h
+  found-more = places-more (codeSound config) (foundSound config) (λ code l. refl) (λ n code l. refl) n found i 0 h
 
-  pub found-stop : codeSound (getD found i 0) (ltb i n) ≡ false → false ≡ foundSound (n - i) (drop i found)
+  pub found-stop : codeSound config (getD found i 0) (ltb i n) ≡ false → false ≡ foundSound config (n - i) (drop i found)
   unfolding foundSound
-  found-stop = places-stop codeSound foundSound (λ code l. refl) (λ n code l. refl) n found i 0 h
+  found-stop = places-stop (codeSound config) (foundSound config) (λ code l. refl) (λ n code l. refl) n found i 0 h
 
-pub found-end : (n : ℕ) → foundSound n [] ≡ true
+pub found-end : (config : Config) (n : ℕ) → foundSound config n [] ≡ true
 unfolding foundSound
-found-end n = refl
+found-end config n = refl
 
 -- ---- some one of the first k ended the reading
 
@@ -116,15 +116,17 @@ module _ (process : Process) (formed : wellFormed process ≡ true) where
   formed-asked asked reading =
       let reads = reading-rule (process .config) (process .found) asked .0 (rw reading at (formed-parts process .0 formed .1)) in (reads .least, reads .most)
 
-  pub formed-code : (code : ℕ) → process .phase ≡ Decided code → code ≤ largestCode
+  pub formed-code : (code : ℕ) → process .phase ≡ Decided code → decidable (process .config) code ≡ true
   formed-code code decided =
-      let sound = rw decided at (formed-parts process .0 formed .1) in leb-true code largestCode (and-eq-true-iff (foundSound 0 (process .found)) (leb code largestCode) .0 sound .1)
+      let sound = rw decided at (formed-parts process .0 formed .1) in and-eq-true-iff (foundSound (process .config) 0 (process .found)) _ .0 sound .1
 
   -- and the value that it decides after a reply that fits
   pub formed-value : (reply : Reply) → isDecided (process .phase) || fits process reply ≡ true → process .phase ≡ Deciding
-      → valueOf (backed (process .config .t) (process .found)) (reply .tuple) (reply .outcome) ≤ largestCode
-  unfolding fits backed
+      → decidable (process .config) (valueOf (backed (process .config .t) (process .found)) (reply .tuple) (reply .outcome)) ≡ true
+  unfolding fits
   formed-value reply fit deciding =
-      let decides = deciding-rule (process .config) (process .found) .0 (rw deciding at (formed-parts process .0 formed .1)) in
-      let small = backed-small largestCode (process .config .t) (process .found) (process .found) (code-small (decides .codes)) in
-      value-small (process .config .n) (process .round) _ (reply .tuple) (reply .outcome) small (rw deciding at fit)
+      let parts = formed-parts process .0 formed in
+      let start = startable-parts (process .config) (parts .0 .start) in
+      let decides = deciding-rule (process .config) (process .found) .0 (rw deciding at (parts .1)) in
+      let own = backed-decidable (process .config) (process .found) (start .policy) (decides .codes) in
+      value-decidable (process .config) (process .round) _ (reply .tuple) (reply .outcome) own (rw deciding at fit)

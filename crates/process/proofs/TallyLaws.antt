@@ -11,12 +11,12 @@ use lib.Dec.{eqb, leb}
 use lib.ListN.{getD}
 use borrow.Author.Tests.{eqb-true, eqb-false, ne-eqb, leb-true, leb-false, le-leb, not-true}
 use borrow.Table.Steps.{cases}
-use Rattle.process.specs.Laws.{SettledRule, BackedRules, SetRules}
+use Rattle.process.specs.Laws.{SettledRule, ReadingEnds, BackedRules, SetRules}
 use Rattle.process.specs.Tallies.{backs, one, backing, backingSet, isBacked, backedOf, backed, settled}
 use Rattle.process.proofs.TallySteps.{one-most}
 use Rattle.space.specs.declared.config.Config.{Config}
-use Rattle.space.specs.Proposals.{bottom}
 use Rattle.space.proofs.MemberLaws.{Bit, lowest, higher}
+use Rattle.tuple.specs.Offsets.{bottom}
 
 -- ---- who backs a value
 
@@ -45,7 +45,7 @@ backing-found value (code ∷ found) = omega (arith, one-found value code, backi
 -- ---- the value of its cas
 
 module _ (t : ℕ) (found : List ℕ) where
-  is-backed-rule : (code : ℕ) → (isBacked t found code ≡ true) ↔ ((code ≡ bottom → ⊥) × (t + 1 ≤ backing code found))
+  pub is-backed-rule : (code : ℕ) → (isBacked t found code ≡ true) ↔ ((code ≡ bottom → ⊥) × (t + 1 ≤ backing code found))
   unfolding isBacked
   is-backed-rule code = (
     λ h. let parts = and-eq-true-iff (not (eqb code 0)) _ .0 h in (eqb-false code 0 (not-true _ (parts .0)), leb-true _ _ (parts .1)),
@@ -103,6 +103,9 @@ settled-rule config found =
           (λ many. rw (le-leb (config .n - config .t) (backing bottom found) many, or-true)) h)
           (λ e. rw e),
     )
+
+pub reading-ends : ReadingEnds
+reading-ends config found many = settled-rule config found .1 (inr many)
 
 -- ---- the set of its cas
 

@@ -7,6 +7,7 @@ use mathlib.Core.List.{List, [], _∷_}
 use lib.ListN.{length, take, drop, getD, drop-of-length-le}
 use borrow.Author.Tests.{eq-eqb, ne-eqb}
 use Rattle.process.specs.Tallies.{backs, one, backing, backingSet, isBacked, backedOf, freeFrom}
+use Rattle.tuple.specs.Offsets.{bottom}
 use Rattle.tuple.proofs.Lists.{drop-step, drop-take-step, drop-take-end}
 
 -- ---- who backs a value
@@ -56,7 +57,7 @@ module _ (t : ℕ) (found : List ℕ) (i : ℕ) where
     unfolding backedOf
     backed-more e = sym (ap (backedOf t found) (drop-step found i 0 inside) ∙ rw e)
 
-  pub backed-end : length found ≤ i → 0 ≡ backedOf t found (drop i found)
+  pub backed-end : length found ≤ i → bottom ≡ backedOf t found (drop i found)
   unfolding backedOf
   backed-end outside = sym (ap (backedOf t found) (drop-of-length-le found {i = i} outside))
 

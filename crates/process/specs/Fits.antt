@@ -1,28 +1,30 @@
 -- Document 01, "The procedure of a following seat": which replies fit. The tuple beside a reply that has none is blank.
 use Prim.Native.Nat.{ℕ}
-use mathlib.Core.Bool.{Bool, false, not, _&&_}
+use mathlib.Core.Bool.{Bool, false, _&&_}
 use lib.Dec.{eqb}
 use Rattle.process.specs.declared.process.Phase.{Phase}
 use Rattle.process.specs.declared.process.Phase.the-variants.{Proposing, Reading, Deciding, Decided}
 use Rattle.process.specs.declared.process.Process.{Process}
-use Rattle.space.specs.Default.{setOf}
+use Rattle.policy.specs.Shapes.{isDecision, decidedCode, setOf}
+use Rattle.space.specs.declared.config.Config.{Config}
 use Rattle.space.specs.Members.{within}
-use Rattle.space.specs.Proposals.{bottom, processOf, offsetOf}
-use Rattle.space.specs.Shapes.{roundOf, isProposal, isDecision}
+use Rattle.space.specs.Proposals.{offered, decidable}
+use Rattle.space.specs.Shapes.{processOf, proposedCode, roundOf, isProposal}
 use Rattle.tuple.specs.declared.field.Tuple.{Tuple}
 use Rattle.tuple.specs.declared.reply.Outcome.{Outcome}
 use Rattle.tuple.specs.declared.reply.Outcome.the-variants.{Done, None, Found, Inserted, Held, Refused}
 use Rattle.tuple.specs.declared.reply.Reply.{Reply}
 use Rattle.tuple.specs.Faults.{isEntry, restBlank}
 
--- a proposal of the asked round and process other than bottom, which a well-formed space can hold
-unfoldable pub isAskedProposal : ℕ → ℕ → Tuple → Bool
-isAskedProposal round asked tuple =
-    isEntry tuple && isProposal tuple && eqb (roundOf tuple) round && eqb (processOf tuple) asked && not (eqb (offsetOf tuple) bottom)
+-- a proposal of the asked round and process, of an offset that may be proposed, which a well-formed space can hold
+unfoldable pub isAskedProposal : Config → ℕ → ℕ → Tuple → Bool
+isAskedProposal config round asked tuple =
+    isEntry tuple && isProposal tuple && eqb (roundOf tuple) round && eqb (processOf tuple) asked && offered config (proposedCode tuple)
 
--- (word 2, the asked round, an offset or bottom, seats in 1 to n), which a well-formed space can hold
-unfoldable pub isRoundDecision : ℕ → ℕ → Tuple → Bool
-isRoundDecision n round tuple = isEntry tuple && isDecision tuple && eqb (roundOf tuple) round && within n (setOf tuple)
+-- (word 2, the asked round, what may be decided, seats in 1 to n), which a well-formed space can hold
+unfoldable pub isRoundDecision : Config → ℕ → Tuple → Bool
+isRoundDecision config round tuple =
+    isEntry tuple && isDecision tuple && eqb (roundOf tuple) round && decidable config (decidedCode tuple) && within (config .n) (setOf tuple)
 
 -- done after out
 abbrev pub fitsOut : Tuple → Outcome → Bool
@@ -34,28 +36,28 @@ fitsOut tuple Held = false
 fitsOut tuple (Refused why) = false
 
 -- none, or such a proposal, after rdp
-abbrev pub fitsRdp : ℕ → ℕ → Tuple → Outcome → Bool
-fitsRdp round asked tuple Done = false
-fitsRdp round asked tuple None = restBlank tuple false
-fitsRdp round asked tuple Found = isAskedProposal round asked tuple
-fitsRdp round asked tuple Inserted = false
-fitsRdp round asked tuple Held = false
-fitsRdp round asked tuple (Refused why) = false
+abbrev pub fitsRdp : Config → ℕ → ℕ → Tuple → Outcome → Bool
+fitsRdp config round asked tuple Done = false
+fitsRdp config round asked tuple None = restBlank tuple false
+fitsRdp config round asked tuple Found = isAskedProposal config round asked tuple
+fitsRdp config round asked tuple Inserted = false
+fitsRdp config round asked tuple Held = false
+fitsRdp config round asked tuple (Refused why) = false
 
 -- inserted, or held with such a decision, after cas
-abbrev pub fitsCas : ℕ → ℕ → Tuple → Outcome → Bool
-fitsCas n round tuple Done = false
-fitsCas n round tuple None = false
-fitsCas n round tuple Found = false
-fitsCas n round tuple Inserted = restBlank tuple false
-fitsCas n round tuple Held = isRoundDecision n round tuple
-fitsCas n round tuple (Refused why) = false
+abbrev pub fitsCas : Config → ℕ → Tuple → Outcome → Bool
+fitsCas config round tuple Done = false
+fitsCas config round tuple None = false
+fitsCas config round tuple Found = false
+fitsCas config round tuple Inserted = restBlank tuple false
+fitsCas config round tuple Held = isRoundDecision config round tuple
+fitsCas config round tuple (Refused why) = false
 
-abbrev pub fitsIn : ℕ → ℕ → Reply → Phase → Bool
-fitsIn n round reply Proposing = fitsOut (reply .tuple) (reply .outcome)
-fitsIn n round reply (Reading asked) = fitsRdp round asked (reply .tuple) (reply .outcome)
-fitsIn n round reply Deciding = fitsCas n round (reply .tuple) (reply .outcome)
-fitsIn n round reply (Decided code) = false
+abbrev pub fitsIn : Config → ℕ → Reply → Phase → Bool
+fitsIn config round reply Proposing = fitsOut (reply .tuple) (reply .outcome)
+fitsIn config round reply (Reading asked) = fitsRdp config round asked (reply .tuple) (reply .outcome)
+fitsIn config round reply Deciding = fitsCas config round (reply .tuple) (reply .outcome)
+fitsIn config round reply (Decided code) = false
 
 unfoldable pub fits : Process → Reply → Bool
-fits process reply = fitsIn (process .config .n) (process .round) reply (process .phase)
+fits process reply = fitsIn (process .config) (process .round) reply (process .phase)

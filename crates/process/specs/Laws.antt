@@ -6,34 +6,30 @@ use mathlib.Core.List.{List}
 use Prim.Native.Nat.{ℕ, _+_, _-_, _≤_, _<_}
 use lib.Count.{ones}
 use lib.ListN.{length}
-use Rattle.process.specs.declared.process.Next.the-variants.{Calls, Decides, Refuses}
+use Rattle.process.specs.declared.process.Next.the-variants.{Decides, Refuses}
 use Rattle.process.specs.declared.process.Phase.the-variants.{Proposing, Decided}
 use Rattle.process.specs.declared.process.Process.{Process}
 use Rattle.process.specs.Asks.{rdpCall}
 use Rattle.process.specs.Fits.{fits}
 use Rattle.process.specs.Procedure.{proposable, started, resumed}
-use Rattle.process.specs.States.{startable, known, wellFormed}
+use Rattle.process.specs.Reachable.{Reachable}
+use Rattle.process.specs.States.{startable, wellFormed}
 use Rattle.process.specs.Tallies.{foundOf, backs, backing, backingSet, backed, settled, nextAfter}
 use Rattle.space.specs.declared.config.Config.{Config}
-use Rattle.space.specs.Configs.{processes}
-use Rattle.space.specs.Laws.{Member}
-use Rattle.space.specs.Proposals.{bottom}
+use Rattle.space.specs.Bounds.{processes}
+use Rattle.space.specs.Configs.{known}
+use Rattle.space.specs.Members.{Member}
 use Rattle.space.specs.Shapes.{inRounds}
 use Rattle.tuple.specs.declared.offset.Offset.{Offset}
 use Rattle.tuple.specs.declared.refusal.Refusal.{Refusal}
 use Rattle.tuple.specs.declared.reply.Reply.{Reply}
 use Rattle.tuple.specs.Fields.{blankCall}
-use Rattle.tuple.specs.Offsets.{offsetOf}
+use Rattle.tuple.specs.Offsets.{bottom, offsetOf}
 use Rattle.tuple.specs.Refusals.{refusal}
 
--- ---- a state is well formed if the procedure can reach it by fitting replies
+-- ---- states
 
-pub data Reachable : Process → Type 0 where
-  starts : (config : Config) (process round : ℕ) (offset : Offset) → started config process round offset .next ≡ Calls
-      → Reachable (started config process round offset .process)
-  resumes : (process : Process) (reply : Reply) → Reachable process → fits process reply ≡ true → Reachable (resumed process reply .process)
-
--- a state's type says that it has a place for each process
+-- a state is well formed exactly if the procedure can reach it by fitting replies; its type says that it has a place for each process
 abbrev pub ReachableRule : Type 0
 ReachableRule = (process : Process) → length (process .found) ≡ processes → (wellFormed process ≡ true) ↔ Reachable process
 
@@ -43,7 +39,7 @@ ReachableRule = (process : Process) → length (process .found) ≡ processes �
 pub record StartOrder (config : Config) (process round : ℕ) (offset : Offset) : Type 0 where
   pub unsound : startable config ≡ false → started config process round offset .next ≡ Refuses (refusal 1)
   pub stranger : startable config ≡ true → known config process ≡ false → started config process round offset .next ≡ Refuses (refusal 6)
-  pub beyond : startable config ≡ true → known config process ≡ true → inRounds round && proposable offset ≡ false → started config process round offset .next ≡ Refuses (refusal 3)
+  pub beyond : startable config ≡ true → known config process ≡ true → inRounds round && proposable config offset ≡ false → started config process round offset .next ≡ Refuses (refusal 3)
 
 abbrev pub StartOrders : Type 0
 StartOrders = (config : Config) (process round : ℕ) (offset : Offset) → StartOrder config process round offset
@@ -78,6 +74,10 @@ SettledRule =
     (config : Config) (found : List ℕ)
     → (settled config found ≡ true)
     ↔ (((w : ℕ) × (w ≡ bottom → ⊥) × (config .t + 1 ≤ backing w found)) ⊎ (config .n - config .t ≤ backing bottom found))
+
+-- n - t found processes end the reading
+abbrev pub ReadingEnds : Type 0
+ReadingEnds = (config : Config) (found : List ℕ) → config .n - config .t ≤ backing bottom found → settled config found ≡ true
 
 -- the value is an offset that t + 1 found processes have proposed, or bottom if there is none
 pub record BackedRule (t : ℕ) (found : List ℕ) : Type 0 where

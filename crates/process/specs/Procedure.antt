@@ -2,8 +2,6 @@
 use Prim.Native.Nat.{ℕ, _-_}
 use mathlib.Core.Bool.{Bool, true, false, cond, _&&_, _||_}
 use mathlib.Core.List.{List}
-use lib.Dec.{leb}
-use lib.IntN.{natAbs}
 use lib.ListN.{set}
 use Rattle.process.specs.declared.process.Next.the-variants.{Calls, Decides, Refuses}
 use Rattle.process.specs.declared.process.Phase.{Phase}
@@ -12,22 +10,21 @@ use Rattle.process.specs.declared.process.Process.{Process}
 use Rattle.process.specs.declared.process.Step.{Step}
 use Rattle.process.specs.Asks.{outCall, rdpCall, casCall}
 use Rattle.process.specs.Fits.{fits}
-use Rattle.process.specs.States.{noneFound, blankProcess, startable, known, wellFormed}
+use Rattle.process.specs.States.{noneFound, blankProcess, startable, wellFormed}
 use Rattle.process.specs.Tallies.{backingSet, backed, settled, nextAfter}
+use Rattle.policy.specs.Shapes.{decidedCode}
 use Rattle.space.specs.declared.config.Config.{Config}
-use Rattle.space.specs.Default.{decidedOf}
-use Rattle.space.specs.Proposals.{offsetOf}
-use Rattle.space.specs.Shapes.{inRounds}
+use Rattle.space.specs.Configs.{known}
+use Rattle.space.specs.Proposals.{offered}
+use Rattle.space.specs.Shapes.{proposedCode, inRounds}
 use Rattle.tuple.specs.declared.field.Tuple.{Tuple}
 use Rattle.tuple.specs.declared.offset.Offset.{Offset}
-use Rattle.tuple.specs.declared.offset.Offset.the-variants.{Bottom, Hundredths}
 use Rattle.tuple.specs.declared.refusal.Refusal.{Refusal}
 use Rattle.tuple.specs.declared.reply.Outcome.{Outcome}
 use Rattle.tuple.specs.declared.reply.Outcome.the-variants.{Done, None, Found, Inserted, Held, Refused}
 use Rattle.tuple.specs.declared.reply.Reply.{Reply}
 use Rattle.tuple.specs.Fields.{blankCall}
-use Rattle.tuple.specs.Offsets.{largestOffset, codeOf}
-use Rattle.tuple.specs.Offsets.{offsetOf as meant}
+use Rattle.tuple.specs.Offsets.{inRange, codeOf, offsetOf}
 use Rattle.tuple.specs.Refusals.{refusal}
 
 -- a refusal: the state beside it is the one handed in, or blank where none was started, and no call is given
@@ -36,10 +33,9 @@ refused process why = record { next = Refuses why; process = process; call = bla
 
 -- ---- starting
 
--- an offset in range, and not bottom
-abbrev pub proposable : Offset → Bool
-proposable Bottom = false
-proposable (Hundredths z) = leb (natAbs z) largestOffset
+-- an offset in range that may be proposed
+abbrev pub proposable : Config → Offset → Bool
+proposable config offset = inRange offset && offered config (codeOf offset)
 
 -- it waits for the reply to its proposal
 abbrev pub begun : Config → ℕ → ℕ → Offset → Step
@@ -55,7 +51,7 @@ unfoldable pub started : Config → ℕ → ℕ → Offset → Step
 started config process round offset =
     cond (startable config)
     (cond (known config process)
-    (cond (inRounds round && proposable offset) (begun config process round offset) (refused blankProcess (refusal 3)))
+    (cond (inRounds round && proposable config offset) (begun config process round offset) (refused blankProcess (refusal 3)))
     (refused blankProcess (refusal 6)))
     (refused blankProcess (refusal 1))
 
@@ -76,7 +72,7 @@ casts process found value =
 
 -- it has decided the offset of this code
 abbrev pub decides : Process → ℕ → Step
-decides process code = record { next = Decides (meant code); process = turned process (Decided code) noneFound; call = blankCall }
+decides process code = record { next = Decides (offsetOf code); process = turned process (Decided code) noneFound; call = blankCall }
 
 -- ---- handing it a reply
 
@@ -84,7 +80,7 @@ decides process code = record { next = Decides (meant code); process = turned pr
 abbrev pub noted : List ℕ → ℕ → Tuple → Outcome → List ℕ
 noted found asked tuple Done = found
 noted found asked tuple None = found
-noted found asked tuple Found = set found (asked - 1) (offsetOf tuple)
+noted found asked tuple Found = set found (asked - 1) (proposedCode tuple)
 noted found asked tuple Inserted = found
 noted found asked tuple Held = found
 noted found asked tuple (Refused why) = found
@@ -101,7 +97,7 @@ valueOf own tuple Done = own
 valueOf own tuple None = own
 valueOf own tuple Found = own
 valueOf own tuple Inserted = own
-valueOf own tuple Held = decidedOf tuple
+valueOf own tuple Held = decidedCode tuple
 valueOf own tuple (Refused why) = own
 
 -- a reply that fits; a decided state repeats its decision

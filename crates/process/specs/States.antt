@@ -1,19 +1,19 @@
 -- Document 01, "The procedure of a following seat" and "What is returned, and for what": a process's state (01's seat state), and the test
 -- whether it is well formed. `Laws.ReachableRule` says that it passes exactly for the states that the procedure reaches by fitting replies.
 use Prim.Native.Nat.{ℕ, zero, suc}
-use mathlib.Core.Bool.{Bool, true, false, cond, not, _&&_, _||_}
+use mathlib.Core.Bool.{Bool, true, false, not, _&&_, _||_}
 use mathlib.Core.List.{List, [], _∷_}
 use lib.ListN.{replicate, set}
-use lib.Dec.{leb, eqb}
+use lib.Dec.{eqb}
 use Rattle.process.specs.declared.process.Phase.{Phase}
 use Rattle.process.specs.declared.process.Phase.the-variants.{Proposing, Reading, Deciding, Decided}
 use Rattle.process.specs.declared.process.Process.{Process}
 use Rattle.process.specs.Tallies.{foundOf, settled}
 use Rattle.space.specs.declared.config.Config.{Config}
-use Rattle.space.specs.Configs.{processes, sound}
+use Rattle.space.specs.Bounds.{processes}
+use Rattle.space.specs.Configs.{sound, known, blankConfig}
+use Rattle.space.specs.Proposals.{offered, decidable}
 use Rattle.space.specs.Shapes.{inRounds}
-use Rattle.space.specs.Spaces.{blankConfig}
-use Rattle.tuple.specs.Offsets.{largestCode}
 
 abbrev pub noneFound : List ℕ
 noneFound = replicate processes 0
@@ -26,19 +26,15 @@ blankProcess = record { config = blankConfig; process = 0; round = 0; phase = Pr
 unfoldable pub startable : Config → Bool
 startable config = sound config && eqb (config .policy) 2
 
--- one of the processes 1 to n
-unfoldable pub known : Config → ℕ → Bool
-known config process = leb 1 process && leb process (config .n)
+-- a place holds nothing, or the code of an offset that may be proposed
+unfoldable pub codeSound : Config → ℕ → Bool → Bool
+codeSound config code used = eqb code 0 || (used && offered config code)
 
--- a place holds the code of an offset, or nothing
-unfoldable pub codeSound : ℕ → Bool → Bool
-codeSound code used = cond used (leb code largestCode) (eqb code 0)
-
--- the first n places hold codes of offsets, and the others nothing
-unfoldable pub foundSound : ℕ → List ℕ → Bool
-foundSound n [] = true
-foundSound zero (code ∷ found) = codeSound code false && foundSound zero found
-foundSound (suc n) (code ∷ found) = codeSound code true && foundSound n found
+-- the first n places hold such codes or nothing, and the others nothing
+unfoldable pub foundSound : Config → ℕ → List ℕ → Bool
+foundSound config n [] = true
+foundSound config zero (code ∷ found) = codeSound config code false && foundSound config zero found
+foundSound config (suc n) (code ∷ found) = codeSound config code true && foundSound config n found
 
 -- some one of the first k processes ended the reading: without it, it would go on
 unfoldable pub lastEnds : Config → List ℕ → ℕ → Bool
@@ -47,17 +43,17 @@ lastEnds config found (suc k) = not (settled config (set found k 0)) || lastEnds
 
 -- the process asked is not found, and what is found does not end the reading
 unfoldable pub readingSound : Config → List ℕ → ℕ → Bool
-readingSound config found asked = foundSound (config .n) found && known config asked && eqb (foundOf found asked) 0 && not (settled config found)
+readingSound config found asked = foundSound config (config .n) found && known config asked && eqb (foundOf found asked) 0 && not (settled config found)
 
 -- what is found ended the reading, and only the last one found ended it
 unfoldable pub decidingSound : Config → List ℕ → Bool
-decidingSound config found = foundSound (config .n) found && settled config found && lastEnds config found (config .n)
+decidingSound config found = foundSound config (config .n) found && settled config found && lastEnds config found (config .n)
 
 abbrev pub phaseSound : Config → List ℕ → Phase → Bool
-phaseSound config found Proposing = foundSound 0 found
+phaseSound config found Proposing = foundSound config 0 found
 phaseSound config found (Reading asked) = readingSound config found asked
 phaseSound config found Deciding = decidingSound config found
-phaseSound config found (Decided code) = foundSound 0 found && leb code largestCode
+phaseSound config found (Decided code) = foundSound config 0 found && decidable config code
 
 unfoldable pub wellFormed : Process → Bool
 wellFormed process =

@@ -6,7 +6,7 @@ use mathlib.Core.List.{List, [], _∷_}
 use lib.ListN.{take, drop, getD}
 use lib.Dec.{leb, eqb}
 use Rattle.space.specs.declared.config.Config.{Config}
-use Rattle.space.specs.Proposals.{bottom}
+use Rattle.tuple.specs.Offsets.{bottom}
 
 -- the code at the place of process k
 abbrev pub foundOf : List ℕ → ℕ → ℕ
@@ -29,7 +29,7 @@ unfoldable pub backingSet : ℕ → List ℕ → ℕ
 backingSet value [] = 0
 backingSet value (code ∷ found) = one value code + 2 * backingSet value found
 
--- it is an offset that t + 1 found processes have proposed
+-- a process is found with this code, and t + 1 found processes have proposed its offset
 unfoldable pub isBacked : ℕ → List ℕ → ℕ → Bool
 isBacked t found code = not (eqb code 0) && leb (t + 1) (backing code found)
 

@@ -3,8 +3,11 @@ ghost use mathlib.Core.Path.{_≡_};
 ghost use Rattle.process.specs.Fits.{isAskedProposal, isRoundDecision, fitsOut, fitsRdp, fitsCas, fits as fits·};
 use crate::process::Phase;
 use crate::process::Process;
-use space::is_decision;
+use policy::is_decision;
+use space::Config;
+use space::decidable;
 use space::is_proposal;
+use space::offered;
 use space::within;
 use tuple::Outcome;
 use tuple::Reply;
@@ -13,11 +16,12 @@ use tuple::Tuple;
 pub(crate) fn fits(process: Process, reply: Reply) -> bool
     ensures { λ r. ⌜ r ≡ fits· process reply ⌝ }
 {
+    let config = process.config;
     let phase = process.phase;
     match phase {
         Phase::Proposing => fits_out(reply),
-        Phase::Reading(asked) => fits_rdp(process.round, asked, reply),
-        Phase::Deciding => fits_cas(process.config.n, process.round, reply),
+        Phase::Reading(asked) => fits_rdp(config, process.round, asked, reply),
+        Phase::Deciding => fits_cas(config, process.round, reply),
         Phase::Decided(_) => false,
     }
 }
@@ -35,34 +39,34 @@ fn fits_out(reply: Reply) -> bool
 }
 
 // None, or a proposal of the round and process asked, after rdp.
-fn fits_rdp(round: u64, asked: u64, reply: Reply) -> bool
-    ensures { λ r. ⌜ r ≡ fitsRdp round asked (reply .tuple) (reply .outcome) ⌝ }
+fn fits_rdp(config: Config, round: u64, asked: u64, reply: Reply) -> bool
+    ensures { λ r. ⌜ r ≡ fitsRdp config round asked (reply .tuple) (reply .outcome) ⌝ }
 {
     let outcome = reply.outcome;
     let tuple = reply.tuple;
     match outcome {
         Outcome::None => tuple.is_unused(),
-        Outcome::Found => is_asked_proposal(round, asked, tuple),
+        Outcome::Found => is_asked_proposal(config, round, asked, tuple),
         _ => false,
     }
 }
 
 // Inserted, or held with a decision of the round, after cas.
-fn fits_cas(n: u64, round: u64, reply: Reply) -> bool
-    ensures { λ r. ⌜ r ≡ fitsCas n round (reply .tuple) (reply .outcome) ⌝ }
+fn fits_cas(config: Config, round: u64, reply: Reply) -> bool
+    ensures { λ r. ⌜ r ≡ fitsCas config round (reply .tuple) (reply .outcome) ⌝ }
 {
     let outcome = reply.outcome;
     let tuple = reply.tuple;
     match outcome {
         Outcome::Inserted => tuple.is_unused(),
-        Outcome::Held => is_round_decision(n, round, tuple),
+        Outcome::Held => is_round_decision(config, round, tuple),
         _ => false,
     }
 }
 
-// A proposal of the round and process asked other than bottom, which a well-formed space can hold.
-fn is_asked_proposal(round: u64, asked: u64, tuple: Tuple) -> bool
-    ensures { λ r. ⌜ r ≡ isAskedProposal round asked tuple ⌝ }
+// A proposal of the round and process asked, of an offset that may be proposed, which a well-formed space can hold.
+fn is_asked_proposal(config: Config, round: u64, asked: u64, tuple: Tuple) -> bool
+    ensures { λ r. ⌜ r ≡ isAskedProposal config round asked tuple ⌝ }
 {
     let second = tuple.fields[1];
     let third = tuple.fields[2];
@@ -79,14 +83,15 @@ fn is_asked_proposal(round: u64, asked: u64, tuple: Tuple) -> bool
     if third.value != asked {
         return false;
     }
-    fourth.value != 0
+    offered(config, fourth.value)
 }
 
-// A decision of the round with processes in 1 to n, which a well-formed space can hold.
-fn is_round_decision(n: u64, round: u64, tuple: Tuple) -> bool
-    ensures { λ r. ⌜ r ≡ isRoundDecision n round tuple ⌝ }
+// A decision of the round, of what may be decided, with processes in 1 to n, which a well-formed space can hold.
+fn is_round_decision(config: Config, round: u64, tuple: Tuple) -> bool
+    ensures { λ r. ⌜ r ≡ isRoundDecision config round tuple ⌝ }
 {
     let second = tuple.fields[1];
+    let third = tuple.fields[2];
     let fourth = tuple.fields[3];
     if !tuple.is_entry() {
         return false;
@@ -97,5 +102,8 @@ fn is_round_decision(n: u64, round: u64, tuple: Tuple) -> bool
     if second.value != round {
         return false;
     }
-    within(n, fourth.value)
+    if !decidable(config, third.value) {
+        return false;
+    }
+    within(config.n, fourth.value)
 }

@@ -5,8 +5,9 @@ ghost use Prim.Native.Nat.{_≤_};
 ghost use Rattle.process.specs.Fits.{fits as fits·};
 ghost use Rattle.process.specs.Procedure.{refused as refused·, started, turned as turned·, reads as reads·, casts as casts·, decides as decides·, noted as noted·, readOn, valueOf, isDecided, advanced, resumed};
 ghost use Rattle.process.specs.States.{blankProcess, wellFormed};
-ghost use Rattle.space.specs.Configs.{processes, sound};
-ghost use Rattle.tuple.specs.Offsets.{largestCode};
+ghost use Rattle.space.specs.Bounds.{processes};
+ghost use Rattle.space.specs.Configs.{sound};
+ghost use Rattle.space.specs.Proposals.{decidable};
 use crate::call::cas_call;
 use crate::call::out_call;
 use crate::call::rdp_call;
@@ -15,7 +16,6 @@ use crate::process::Next;
 use crate::process::Phase;
 use crate::process::Process;
 use crate::process::Step;
-use crate::process::known;
 use crate::process::startable;
 use crate::tally::backed;
 use crate::tally::backing_set;
@@ -24,6 +24,7 @@ use crate::tally::settled;
 use space::Config;
 use space::PROCESSES;
 use space::ROUNDS;
+use space::offered;
 use tuple::Call;
 use tuple::Coded;
 use tuple::Decoded;
@@ -39,7 +40,7 @@ pub fn start(config: Config, process: u32, round: u64, offset: Offset) -> Step
     if !startable(config) {
         return unstarted(Refusal::Unsound);
     }
-    if !known(config, process as u64) {
+    if !config.knows(process as u64) {
         return unstarted(Refusal::Stranger);
     }
     if ROUNDS <= round {
@@ -48,7 +49,7 @@ pub fn start(config: Config, process: u32, round: u64, offset: Offset) -> Step
     let Coded::Code(code) = offset.encode() else {
         return unstarted(Refusal::Beyond);
     };
-    if code == 0 {
+    if !offered(config, code) {
         return unstarted(Refusal::Beyond);
     }
     Step {
@@ -195,7 +196,7 @@ fn casts(process: Process, found: [u64; PROCESSES], value: u64) -> Step
 
 // It has decided the offset of this code.
 fn decides(process: Process, code: u64) -> Step
-    requires { ⌜ code ≤ largestCode ⌝ }
+    requires { ⌜ decidable (process .config) code ≡ true ⌝ }
     ensures { λ r. ⌜ r ≡ decides· process code ⌝ }
 {
     let Decoded::Means(offset) = Offset::decode(code) else {

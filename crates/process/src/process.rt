@@ -1,14 +1,15 @@
 // The state of a process in one round, and what it answers.
 ghost use mathlib.Core.Path.{_≡_};
 ghost use mathlib.Core.Bool.{true};
-ghost use Rattle.process.specs.States.{blankProcess, startable as startable·, known as known·, foundSound, codeSound, lastEnds, phaseSound, readingSound, decidingSound, wellFormed};
+ghost use Rattle.process.specs.States.{blankProcess, startable as startable·, foundSound, codeSound, lastEnds, phaseSound, readingSound, decidingSound, wellFormed};
 ghost use Rattle.space.specs.Configs.{sound};
 use crate::tally::settled;
 use space::Config;
 use space::PROCESSES;
 use space::ROUNDS;
+use space::decidable;
+use space::offered;
 use tuple::Call;
-use tuple::LARGEST_CODE;
 use tuple::Offset;
 use tuple::Refusal;
 
@@ -56,11 +57,7 @@ impl Process {
         ensures { λ r. ⌜ r ≡ blankProcess ⌝ }
     {
         Process {
-            config: Config {
-                n: 0,
-                t: 0,
-                policy: 0,
-            },
+            config: Config::blank(),
             process: 0,
             round: 0,
             phase: Phase::Proposing,
@@ -78,7 +75,7 @@ impl Process {
         if !startable(config) {
             return false;
         }
-        if !known(config, self.process as u64) {
+        if !config.knows(self.process as u64) {
             return false;
         }
         if ROUNDS <= self.round {
@@ -99,28 +96,17 @@ pub(crate) fn startable(config: Config) -> bool
     }
 }
 
-// Whether this is one of the processes 1 to n.
-pub(crate) fn known(config: Config, process: u64) -> bool
-    ensures { λ r. ⌜ r ≡ known· config process ⌝ }
-{
-    if 1 <= process {
-        process <= config.n
-    } else {
-        false
-    }
-}
-
 fn phase_sound(config: Config, found: [u64; PROCESSES], phase: Phase) -> bool
     requires { ⌜ sound config ≡ true ⌝ }
     ensures { λ r. ⌜ r ≡ phaseSound config found phase ⌝ }
 {
     match phase {
-        Phase::Proposing => found_sound(found, 0),
+        Phase::Proposing => found_sound(config, found, 0),
         Phase::Reading(asked) => reading_sound(config, found, asked),
         Phase::Deciding => deciding_sound(config, found),
         Phase::Decided(code) => {
-            if found_sound(found, 0) {
-                code <= LARGEST_CODE
+            if found_sound(config, found, 0) {
+                decidable(config, code)
             } else {
                 false
             }
@@ -133,10 +119,10 @@ fn reading_sound(config: Config, found: [u64; PROCESSES], asked: u64) -> bool
     requires { ⌜ sound config ≡ true ⌝ }
     ensures { λ r. ⌜ r ≡ readingSound config found asked ⌝ }
 {
-    if !found_sound(found, config.n) {
+    if !found_sound(config, found, config.n) {
         return false;
     }
-    if !known(config, asked) {
+    if !config.knows(asked) {
         return false;
     }
     if found[(asked - 1) as usize] != 0 {
@@ -150,7 +136,7 @@ fn deciding_sound(config: Config, found: [u64; PROCESSES]) -> bool
     requires { ⌜ sound config ≡ true ⌝ }
     ensures { λ r. ⌜ r ≡ decidingSound config found ⌝ }
 {
-    if !found_sound(found, config.n) {
+    if !found_sound(config, found, config.n) {
         return false;
     }
     if !settled(config, found) {
@@ -176,13 +162,13 @@ fn last_ends(config: Config, found: [u64; PROCESSES]) -> bool
     false
 }
 
-// Whether the first n places hold codes of offsets, and the others nothing.
-fn found_sound(found: [u64; PROCESSES], n: u64) -> bool
-    ensures { λ r. ⌜ r ≡ foundSound n found ⌝ }
+// Whether the first n places hold nothing or codes of offsets that may be proposed, and the others nothing.
+fn found_sound(config: Config, found: [u64; PROCESSES], n: u64) -> bool
+    ensures { λ r. ⌜ r ≡ foundSound config n found ⌝ }
 {
     let mut i = 0;
     while i < PROCESSES {
-        if !code_sound(found[i], (i as u64) < n) {
+        if !code_sound(config, found[i], (i as u64) < n) {
             return false;
         }
         i += 1;
@@ -190,12 +176,11 @@ fn found_sound(found: [u64; PROCESSES], n: u64) -> bool
     true
 }
 
-fn code_sound(code: u64, used: bool) -> bool
-    ensures { λ r. ⌜ r ≡ codeSound code used ⌝ }
+fn code_sound(config: Config, code: u64, used: bool) -> bool
+    ensures { λ r. ⌜ r ≡ codeSound config code used ⌝ }
 {
-    if used {
-        code <= LARGEST_CODE
-    } else {
-        code == 0
+    if code == 0 {
+        return true;
     }
+    if used { offered(config, code) } else { false }
 }

@@ -2,15 +2,20 @@
 ghost use mathlib.Core.Path.{_≡_};
 ghost use Prim.Native.Nat.{_≤_};
 ghost use Rattle.process.specs.Tallies.{backs as backs·, one, backing as backing·, backingSet, isBacked, backed as backed·, settled as settled·, freeBehind, nextAfter};
-ghost use Rattle.space.specs.Configs.{processes};
+ghost use Rattle.space.specs.Bounds.{processes};
 use space::Config;
 use space::PROCESSES;
+use tuple::BOTTOM;
 
 // Whether a process found with this code backs a value: bottom is backed by every process that is found.
 fn backs(value: u64, code: u64) -> bool
     ensures { λ r. ⌜ r ≡ backs· value code ⌝ }
 {
-    if value == 0 { code != 0 } else { code == value }
+    if value == BOTTOM {
+        code != 0
+    } else {
+        code == value
+    }
 }
 
 // How many of the found processes back a value.
@@ -58,7 +63,7 @@ pub(crate) fn backed(found: [u64; PROCESSES], t: u64) -> u64
         }
         i += 1;
     }
-    0
+    BOTTOM
 }
 
 fn is_backed(found: [u64; PROCESSES], t: u64, code: u64) -> bool
@@ -77,14 +82,14 @@ pub(crate) fn settled(config: Config, found: [u64; PROCESSES]) -> bool
     requires { ⌜ config .t ≤ config .n ⌝ }
     ensures { λ r. ⌜ r ≡ settled· config found ⌝ }
 {
-    let count = backing(found, 0);
+    let count = backing(found, BOTTOM);
     if config.n - config.t <= count {
         return true;
     }
     if count <= config.t {
         return false;
     }
-    backed(found, config.t) != 0
+    backed(found, config.t) != BOTTOM
 }
 
 // The first of the processes 1 to n behind the first k that is not found, or 0.

@@ -16,7 +16,8 @@ use Rattle.record.specs.Reading.{place, noTuple, ReadFields, noFields, p
 use Rattle.record.proofs.Steps.{goes-on, stops}
 use Rattle.tuple.specs.declared.field.Field.{Field}
 use Rattle.tuple.specs.declared.refusal.Refusal.{Refusal}
-use Rattle.tuple.specs.Fields.{places, blankField}
+use Rattle.tuple.specs.Bounds.{places}
+use Rattle.tuple.specs.Fields.{blankField}
 
 -- fields, and what was read behind them
 abbrev joined : List Field → ReadFields → ReadFields

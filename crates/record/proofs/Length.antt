@@ -15,7 +15,8 @@ use Rattle.tuple.specs.declared.fault.Fault.the-variants.{Absent}
 use Rattle.tuple.specs.declared.field.Field.{Field}
 use Rattle.tuple.specs.declared.field.Tuple.{Tuple}
 use Rattle.tuple.specs.declared.field.Call.{Call}
-use Rattle.tuple.specs.Fields.{count, defined, cas, places, largestOf, largestCount}
+use Rattle.tuple.specs.Fields.{count, defined, cas, largestOf}
+use Rattle.tuple.specs.Bounds.{places, largestCount}
 use Rattle.tuple.specs.Faults.{knownHead, isDefined, fieldFault, fieldsFault, tupleFault, partFault, usesTemplate, usesEntry, usedFault, placeBlank, restFrom, restBlank, callFault}
 use Rattle.varint.specs.Reading.{largest}
 use Rattle.varint.specs.Writing.{groupsOf, bytesOf, widthOf}

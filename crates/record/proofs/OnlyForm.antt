@@ -28,14 +28,14 @@ use Rattle.tuple.specs.declared.field.Field.{Field}
 use Rattle.tuple.specs.declared.field.Tuple.{Tuple}
 use Rattle.tuple.specs.declared.field.Call.{Call}
 use Rattle.tuple.specs.declared.refusal.Refusal.{Refusal}
-use Rattle.tuple.specs.Fields.{defined, out, cas, places, largestOf, blankField}
+use Rattle.tuple.specs.Fields.{defined, out, cas, largestOf, blankField}
+use Rattle.tuple.specs.Bounds.{places}
 use Rattle.tuple.specs.Faults.{knownHead, fieldFault, fieldsFault, tupleFault, partFault, usesTemplate, usesEntry, usedFault, isBlank, placeBlank, restFrom, restBlank, callFault}
 use Rattle.tuple.proofs.FaultLaws.{defined-fault}
 use Rattle.varint.specs.declared.Number.{Number}
 use Rattle.varint.specs.declared.Number.the-variants.{Value, Cut, Overlong}
-use Rattle.varint.specs.Reading.{largest, numberAt}
+use Rattle.varint.specs.Reading.{largest, numberAt, Bytes}
 use Rattle.varint.specs.Writing.{bytesOf}
-use Rattle.varint.specs.Laws.{Bytes}
 use Rattle.varint.proofs.ReadingLaws as varint
 
 -- ---- bytes taken

@@ -28,7 +28,8 @@ use Rattle.tuple.specs.declared.field.Field.{Field}
 use Rattle.tuple.specs.declared.field.Tuple.{Tuple}
 use Rattle.tuple.specs.declared.field.Call.{Call}
 use Rattle.tuple.specs.Refusals.{refusal}
-use Rattle.tuple.specs.Fields.{defined, out, cas, places, largestOf}
+use Rattle.tuple.specs.Fields.{defined, out, cas, largestOf}
+use Rattle.tuple.specs.Bounds.{places}
 use Rattle.tuple.specs.Faults.{isDefined, fieldsFault, tupleFault, partFault, usesTemplate, usesEntry, placeBlank, restFrom, restBlank, callFault}
 use Rattle.varint.specs.Reading.{largest}
 use Rattle.varint.specs.Writing.{bytesOf, widthOf}

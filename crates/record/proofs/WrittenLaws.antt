@@ -9,7 +9,8 @@ use lib.Seq.{sets, sets-eq, length-sets, getD-take}
 use borrow.Author.Tests.{le-leb, lt-leb}
 use Rattle.record.specs.declared.writer.Recorded.the-variants.{Length, Unwritten}
 use Rattle.record.specs.Heads.{headNumber}
-use Rattle.record.specs.Writing.{fieldBytes, fieldsBytes, tupleBytes, partBytes, callBytes, WritableField, WritablePart, WritableCall, writtenOf, leftOf}
+use Rattle.record.specs.Writing.{fieldBytes, fieldsBytes, tupleBytes, partBytes, callBytes, writtenOf, leftOf}
+use Rattle.record.specs.Private.{WritableField, WritablePart, WritableCall}
 use Rattle.record.proofs.NumberLaws.{kind-most}
 use Rattle.tuple.proofs.NoFault.{fields-sound, tuple-sound, SoundPart, call-sound}
 use Rattle.varint.proofs.ReadingLaws.{picked}
@@ -19,7 +20,8 @@ use Rattle.tuple.specs.declared.field.Tuple.{Tuple}
 use Rattle.tuple.specs.declared.field.Call.{Call}
 use Rattle.tuple.specs.declared.refusal.Refusal.{Refusal}
 use Rattle.tuple.specs.declared.refusal.Refusal.the-variants.{NoRoom}
-use Rattle.tuple.specs.Fields.{places, blankField}
+use Rattle.tuple.specs.Bounds.{places}
+use Rattle.tuple.specs.Fields.{blankField}
 use Rattle.tuple.specs.Faults.{isDefined, fieldsFault, partFault, usesTemplate, usesEntry, callFault}
 use Rattle.tuple.proofs.Lists.{drop-take-step, drop-take-end}
 use Rattle.varint.specs.Writing.{bytesOf, widthOf}

@@ -5,22 +5,11 @@ use mathlib.Core.List.{List, _++_}
 use lib.ListN.{length, drop}
 use Rattle.record.specs.declared.writer.Recorded.the-variants.{Length}
 use Rattle.record.specs.Reading.{place, callAt}
-use Rattle.record.specs.Writing.{callBytes, writtenOf, leftOf}
+use Rattle.record.specs.Writing.{callBytes, writtenOf, leftOf, longest, Typed}
 use Rattle.tuple.specs.declared.fault.Fault.the-variants.{Absent}
 use Rattle.tuple.specs.declared.field.Call.{Call}
-use Rattle.tuple.specs.Fields.{places, largestProcess}
 use Rattle.tuple.specs.Faults.{callFault}
-use Rattle.varint.specs.Laws.{Bytes}
-
--- the most bytes of a record
-abbrev pub longest : ℕ
-longest = 80
-
--- what the struct's types say of a call: the bound of its process, and that each of its tuples has six places
-pub record Typed (call : Call) : Type 0 where
-  pub process : call .process ≤ largestProcess
-  pub template : length (call .template .fields) ≡ places
-  pub entry : length (call .entry .fields) ≡ places
+use Rattle.varint.specs.Reading.{Bytes}
 
 -- a call without fault, written, reads back to that call and that length, wherever it stands and whatever follows
 abbrev pub ReadBack : Type 0

@@ -16,7 +16,8 @@ use Rattle.record.specs.Heads.{headOf}
 use Rattle.tuple.specs.declared.field.Field.{Field}
 use Rattle.tuple.specs.declared.field.Tuple.{Tuple}
 use Rattle.tuple.specs.Refusals.{refusal}
-use Rattle.tuple.specs.Fields.{defined, out, cas, places, largestOf, blankField, blankTuple, blankCall}
+use Rattle.tuple.specs.Fields.{defined, out, cas, largestOf, blankField, blankTuple, blankCall}
+use Rattle.tuple.specs.Bounds.{places}
 use Rattle.tuple.specs.Faults.{usesTemplate, usesEntry}
 use Rattle.varint.specs.declared.Number.{Number}
 use Rattle.varint.specs.declared.Number.the-variants.{Value, Cut, Overlong}

@@ -1,9 +1,9 @@
 -- Document 01, "Bytes": the bytes of a record, and what writing it answers and leaves.
 use mathlib.Core.Path.{_≡_}
-use Prim.Native.Nat.{ℕ, _≤_, _<_}
-use mathlib.Core.Bool.{Bool, true, cond}
+use Prim.Native.Nat.{ℕ, _≤_}
+use mathlib.Core.Bool.{Bool, cond}
 use mathlib.Core.List.{List, [], _∷_, _++_}
-use lib.ListN.{length, getD, take, drop}
+use lib.ListN.{length, take, drop}
 use lib.Dec.{leb}
 use Rattle.record.specs.declared.writer.Recorded.{Recorded}
 use Rattle.record.specs.declared.writer.Recorded.the-variants.{Length, Unwritten}
@@ -13,10 +13,9 @@ use Rattle.tuple.specs.declared.fault.Fault.the-variants.{Absent, Present}
 use Rattle.tuple.specs.declared.field.Field.{Field}
 use Rattle.tuple.specs.declared.field.Tuple.{Tuple}
 use Rattle.tuple.specs.declared.field.Call.{Call}
+use Rattle.tuple.specs.Bounds.{places, largestProcess}
 use Rattle.tuple.specs.Refusals.{refusal}
-use Rattle.tuple.specs.Fields.{places, blankField}
 use Rattle.tuple.specs.Faults.{isDefined, usesTemplate, usesEntry, callFault}
-use Rattle.varint.specs.Reading.{largest}
 use Rattle.varint.specs.Writing.{bytesOf}
 
 -- a field is its head, then its value if it is defined
@@ -41,24 +40,6 @@ callBytes call =
     bytesOf (call .process)
     ++ (bytesOf (call .code) ++ (partBytes (usesTemplate (call .code)) (call .template) ++ partBytes (usesEntry (call .code)) (call .entry)))
 
--- ---- what the writer's own functions may count on, which a call without fault gives
-
--- a value, if it is defined, that is no larger than the largest number
-abbrev pub WritableField : Field → Type 0
-WritableField field = isDefined field ≡ true → field .value ≤ largest
-
--- few enough fields, each writable
-pub record Writable (tuple : Tuple) : Type 0 where
-  pub few : tuple .count ≤ places
-  pub each : (i : ℕ) → i < tuple .count → WritableField (getD (tuple .fields) i blankField)
-
-abbrev pub WritablePart : Bool → Tuple → Type 0
-WritablePart used tuple = used ≡ true → Writable tuple
-
-pub record WritableCall (call : Call) : Type 0 where
-  pub template : WritablePart (usesTemplate (call .code)) (call .template)
-  pub entry : WritablePart (usesEntry (call .code)) (call .entry)
-
 -- ---- the answer and the buffer
 
 -- what writing answers: the call's fault, then 10, or the record's length
@@ -76,3 +57,15 @@ bufferStep call buffer (Length n) = callBytes call ++ drop n buffer
 
 unfoldable pub leftOf : Call → List ℕ → List ℕ
 leftOf call buffer = bufferStep call buffer (writtenOf call (length buffer))
+
+-- ---- what the laws ask
+
+-- the most bytes of a record
+abbrev pub longest : ℕ
+longest = 80
+
+-- what the struct's types say of a call: the bound of its process, and that each of its tuples has six places
+pub record Typed (call : Call) : Type 0 where
+  pub process : call .process ≤ largestProcess
+  pub template : length (call .template .fields) ≡ places
+  pub entry : length (call .entry .fields) ≡ places

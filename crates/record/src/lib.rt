@@ -12,6 +12,3 @@ pub use reader::ReadTuple;
 pub use reader::read;
 pub use writer::Recorded;
 pub use writer::write;
-
-// The most bytes of a record.
-pub const LONGEST: usize = 80;

@@ -14,85 +14,66 @@ use tuple::Tuple;
 use tuple::WILDCARD;
 use tuple::WORD;
 
-pub(crate) const CALLS: u32 = 5;
+pub(crate) const CALLS: u32 = 4;
 
-// Its own proposal, a second one, a decision that process 1 does not back, a proposal for process 1, and bottom.
+// Its own proposal, a second one, a decision that process 1 does not back, and a proposal for process 1.
 pub(crate) fn call(pass: u32) -> Call {
     match pass {
-        1 => out(proposal(4, 80)),
-        2 => out(proposal(4, 81)),
-        3 => cas(decision(80, 9)),
-        4 => out(proposal(1, 80)),
-        _ => cas(decision(0, 15)),
+        0 => propose(4, 80),
+        1 => propose(4, 81),
+        2 => decide(80, 9),
+        _ => propose(1, 80),
     }
 }
 
-fn out(entry: Tuple) -> Call {
+// An out of (word 1, count 0, count process, offset), the offset by its code.
+fn propose(process: u64, code: u64) -> Call {
     Call {
         process: 4,
         code: OUT,
         template: Tuple::blank(),
-        entry,
+        entry: four(
+            PROPOSE,
+            field(COUNT, DEFINED, process),
+            field(OFFSET, DEFINED, code),
+        ),
     }
 }
 
-// (word 2, count 0, open offset, any processes) is the template.
-fn cas(entry: Tuple) -> Call {
+// A cas of (word 2, count 0, offset, processes), the offset by its code, where (word 2, count 0, open offset, any processes) is the template.
+fn decide(code: u64, set: u64) -> Call {
     Call {
         process: 4,
         code: CAS,
         template: four(
-            defined(WORD, DECISION),
-            defined(COUNT, 0),
-            undefined(OFFSET, FORMAL),
-            undefined(PROCESS_SET, WILDCARD),
+            DECISION,
+            field(OFFSET, FORMAL, 0),
+            field(PROCESS_SET, WILDCARD, 0),
         ),
-        entry,
+        entry: four(
+            DECISION,
+            field(OFFSET, DEFINED, code),
+            field(PROCESS_SET, DEFINED, set),
+        ),
     }
 }
 
-// (word 1, count 0, count process, offset), the offset by its code
-fn proposal(process: u64, code: u64) -> Tuple {
-    four(
-        defined(WORD, PROPOSE),
-        defined(COUNT, 0),
-        defined(COUNT, process),
-        defined(OFFSET, code),
-    )
-}
-
-// (word 2, count 0, offset, processes), the offset by its code
-fn decision(code: u64, set: u64) -> Tuple {
-    four(
-        defined(WORD, DECISION),
-        defined(COUNT, 0),
-        defined(OFFSET, code),
-        defined(PROCESS_SET, set),
-    )
-}
-
-fn four(a: Field, b: Field, c: Field, d: Field) -> Tuple {
-    let mut tuple = Tuple::blank();
-    tuple.count = 4;
-    tuple.fields[0] = a;
-    tuple.fields[1] = b;
-    tuple.fields[2] = c;
-    tuple.fields[3] = d;
-    tuple
-}
-
-fn defined(kind: u8, value: u64) -> Field {
-    Field {
-        kind,
-        state: DEFINED,
-        value,
+// (word, count 0, and two fields more)
+fn four(word: u64, c: Field, d: Field) -> Tuple {
+    let blank = Field::blank();
+    Tuple {
+        count: 4,
+        fields: [
+            field(WORD, DEFINED, word),
+            field(COUNT, DEFINED, 0),
+            c,
+            d,
+            blank,
+            blank,
+        ],
     }
 }
 
-fn undefined(kind: u8, state: u8) -> Field {
-    Field {
-        kind,
-        state,
-        value: 0,
-    }
+fn field(kind: u8, state: u8, value: u64) -> Field {
+    Field { kind, state, value }
 }

@@ -2,7 +2,7 @@
 -- the call, and nothing leaves. From the steps of calls.
 use mathlib.Core.Path.{_≡_, refl, sym, ap, _∙_, subst}
 use mathlib.Core.Bool.{Bool, true, false, false≢true}
-use mathlib.Core.List.{List, [], _∷_, _++_, List·Memᴰ, List·Memᴰ·head, Memᴰ·append-left, Memᴰ·append-right}
+use mathlib.Core.List.{List, [], _∷_, _++_, List·Memᴰ, List·Memᴰ·head, Memᴰ·append-right}
 use Prim.Native.Nat.{ℕ}
 use native.Mathlib.Omega.{arith}
 use lib.Dec.{ltb, eqb}
@@ -11,20 +11,20 @@ use lib.Seq.{append-snoc}
 use borrow.Author.Tests.{eqb-false}
 use borrow.Table.Steps.{cases}
 use Rattle.runs.specs.Theorem.{SoundConfig, turnOn}
-use Rattle.runs.proofs.Configs.{config-run}
+use Rattle.runs.proofs.Configs.{config-run, stays}
 use Rattle.runs.proofs.Turning.{last-more, by-turn}
 use Rattle.space.specs.declared.config.Config.{Config}
-use Rattle.space.specs.declared.space.Applied.{Applied}
+use Rattle.calls.specs.declared.turn.Applied.{Applied}
 use Rattle.space.specs.declared.space.Space.{Space}
-use Rattle.space.specs.Calls.{Effect, inserted, rdpEffect, inpEffect, casEffect, effect}
-use Rattle.space.specs.Policies.{permits}
-use Rattle.space.specs.RunLaws.{last}
+use Rattle.calls.specs.declared.effect.Effect.{Effect}
+use Rattle.calls.specs.Effects.{appends, rdpEffect, inpEffect, casEffect, effect}
+use Rattle.policy.specs.declared.verdicts.Verdict.the-variants.{Permit}
+use Rattle.policy.specs.Policies.{verdictOn}
+use Rattle.calls.specs.Turns.{last, Turn, applied, turns}
 use Rattle.space.specs.Spaces.{held}
-use Rattle.space.specs.Turns.{Turn, applied, turns}
-use Rattle.space.proofs.CallSteps.{Puts, Moves, Steps, steps}
-use Rattle.space.proofs.Keys.{stands}
-use Rattle.space.proofs.RunSteps.{Goes, next, held-run}
-use Rattle.space.proofs.SumLaws.{nothing-leaves}
+use Rattle.calls.proofs.CallSteps.{Puts, Moves, Steps, steps}
+use Rattle.space.proofs.SpaceRules.{stands}
+use Rattle.calls.proofs.RunSteps.{Goes, next, held-run}
 use Rattle.tuple.specs.declared.fault.Fault.the-variants.{Absent}
 use Rattle.tuple.specs.declared.field.Tuple.{Tuple}
 use Rattle.tuple.specs.declared.field.Call.{Call}
@@ -34,16 +34,11 @@ use Rattle.tuple.specs.declared.reply.Reply.{Reply}
 use Rattle.tuple.specs.declared.reply.Outcome.{Outcome}
 use Rattle.tuple.specs.declared.reply.Outcome.the-variants as outcome
 use Rattle.tuple.specs.Faults.{callFault}
-use Rattle.tuple.specs.Fields.{out, rdp, inp, cas, capacity, blankTuple}
+use Rattle.tuple.specs.Fields.{out, rdp, inp, cas, blankTuple}
+use Rattle.tuple.specs.Bounds.{capacity}
 use Rattle.tuple.specs.Matching.{matches, oldestOf}
 use Rattle.tuple.proofs.MatchRules.{oldest-rule}
 use Rattle.tuple.proofs.NoFault.{call-sound}
-
--- ---- nothing leaves
-
-pub stays : {config : Config} {tuple : Tuple} → SoundConfig config → (before behind : List Call) → List·Memᴰ tuple (held (last config before))
-    → List·Memᴰ tuple (held (last config (before ++ behind)))
-stays {config} safe before behind m = let grown = nothing-leaves config before behind (safe .default) in rw (grown .1) (Memᴰ·append-left (grown .0) m)
 
 -- ---- an entry that is put
 
@@ -57,7 +52,7 @@ putting (outcome.Refused why) = false
 
 record Entered (config : Config) (tuples : List Tuple) (call : Call) (how : Outcome) (left : List Tuple) : Type 0 where
   puts : Puts tuples call how
-  permitted : permits config tuples call ≡ true
+  permitted : verdictOn config tuples call ≡ Permit
   there : List·Memᴰ (call .entry) left
 
 entered : {config : Config} {tuples : List Tuple} {call : Call} {how : Outcome} {left : List Tuple} → Goes config tuples call how left → putting how ≡ true
@@ -75,7 +70,7 @@ entered (Goes.goes fault p (Moves.takes i e inside)) h = absurd (false≢true h)
 pub record Put (config : Config) (calls : List Call) (turn : Turn) : Type 0 where
   pub before : List Call
   pub puts : Puts (held (last config before)) (turn .call) (turn .reply .outcome)
-  pub permitted : permits config (held (last config before)) (turn .call) ≡ true
+  pub permitted : verdictOn config (held (last config before)) (turn .call) ≡ Permit
   pub there : List·Memᴰ (turn .call .entry) (held (last config calls))
 
 module _ {config : Config} (safe : SoundConfig config) where
@@ -114,7 +109,7 @@ pub record Shown (tuples : List Tuple) (call : Call) (how : Outcome) (tuple : Tu
 
 module _ (tuples : List Tuple) (call : Call) where
   abbrev Showing : Effect → Type 0
-  Showing done = showing (done .outcome) ≡ true → Shown tuples call (done .outcome) (done .tuple)
+  Showing does = showing (does .reply .outcome) ≡ true → Shown tuples call (does .reply .outcome) (does .reply .tuple)
 
   at-shown : {how : Outcome} (i : ℕ) → oldestOf tuples (call .template) ≡ At i → (how ≡ outcome.Held → call .code ≡ cas)
       → Shown tuples call how (getD tuples i blankTuple)
@@ -122,7 +117,7 @@ module _ (tuples : List Tuple) (call : Call) where
       let found = oldest-rule .at tuples (call .template) i .0 at in
       record { there = stands tuples i (found .0); matched = found .1; by-cas = by-cas }
 
-  put-shown : (how : Outcome) → showing how ≡ false → Showing (inserted how tuples (call .entry))
+  put-shown : (how : Outcome) → showing how ≡ false → Showing (appends how (length tuples))
   put-shown how none =
       cases (ltb (length tuples) capacity)
       (λ e. rw e (λ h. absurd (false≢true (sym none ∙ h))))
@@ -134,7 +129,7 @@ module _ (tuples : List Tuple) (call : Call) where
       (λ h. here, λ h. here)
   read-shown Nowhere at = (λ h. absurd (false≢true h), λ h. absurd (false≢true h))
 
-  cas-shown : call .code ≡ cas → (found : Found) → oldestOf tuples (call .template) ≡ found → Showing (casEffect tuples (call .entry) found)
+  cas-shown : call .code ≡ cas → (found : Found) → oldestOf tuples (call .template) ≡ found → Showing (casEffect tuples found)
   cas-shown e (At i) at = λ h. at-shown i at (λ held. e)
   cas-shown e Nowhere at = put-shown outcome.Inserted refl
 
@@ -151,7 +146,7 @@ module _ (tuples : List Tuple) (call : Call) where
 
 -- the policy permitted the call, whose reply shows a tuple of the space
 pub record Shows (config : Config) (tuples : List Tuple) (call : Call) (reply : Reply) : Type 0 where
-  pub permitted : permits config tuples call ≡ true
+  pub permitted : verdictOn config tuples call ≡ Permit
   pub shown : Shown tuples call (reply .outcome) (reply .tuple)
 
 steps-shown : {space : Space} {call : Call} {done : Applied} → Steps space call done → showing (done .reply .outcome) ≡ true

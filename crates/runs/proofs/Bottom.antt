@@ -9,30 +9,28 @@ use lib.Count.{ones}
 use lib.Dec.{eqb}
 use borrow.Author.Tests.{eqb-true, eq-eqb}
 use borrow.Table.Steps.{cases}
-use Rattle.runs.specs.Correct.{Decision, amount}
-use Rattle.runs.specs.Decisions.{hasDoneProposal}
+use Rattle.runs.specs.Correct.{amount}
+use Rattle.runs.specs.Decisions.{Decision, hasDoneProposal}
 use Rattle.runs.specs.Theorem.{SoundConfig}
+use Rattle.runs.proofs.Configs.{bottom-borne, permitted-cas}
 use Rattle.runs.proofs.Bearing.{borne, borne-round, borne-offset}
 use Rattle.runs.proofs.Counts.{quorum}
-use Rattle.runs.proofs.Proposing.{other, FewOthers, proposed-more, entries, standing-proposed, proposed-stands}
+use Rattle.runs.proofs.Proposing.{other, FewOthers, proposed-more, standing-proposed, proposed-stands}
 use Rattle.runs.proofs.Standing.{Stands}
 use Rattle.runs.proofs.Tests.{proposed-rule, same-code}
 use Rattle.space.specs.declared.config.Config.{Config}
-use Rattle.space.specs.Default.{decidedOf, setOf}
-use Rattle.space.specs.Laws.{Member, Proposed as Standing}
-use Rattle.space.specs.Members.{within, counted}
-use Rattle.space.specs.Proposals.{bottom}
-use Rattle.space.specs.RunLaws.{last}
+use Rattle.policy.specs.Shapes.{decidedCode, setOf}
+use Rattle.space.specs.Members.{Member, within, counted}
+use Rattle.space.specs.Proposals.{Proposed as Standing}
+use Rattle.tuple.specs.Offsets.{bottom, codeOf, offsetOf}
+use Rattle.calls.specs.Turns.{last, turns}
 use Rattle.space.specs.Shapes.{roundOf}
 use Rattle.space.specs.Spaces.{held}
-use Rattle.space.specs.Turns.{turns}
 use Rattle.space.proofs.MemberLaws.{within-rule}
-use Rattle.space.proofs.PolicyLaws.{cas-bottom-rule}
 use Rattle.space.proofs.TallyLaws.{tally-rule}
 use Rattle.tuple.specs.declared.field.Call.{Call}
 use Rattle.tuple.specs.declared.offset.Offset.{Offset}
 use Rattle.tuple.specs.declared.offset.Offset.the-variants.{Bottom}
-use Rattle.tuple.specs.Offsets.{codeOf, offsetOf as meant}
 use Rattle.tuple.proofs.OffsetLaws.{one-to-one}
 
 -- on the space that the calls before left
@@ -43,7 +41,7 @@ module _ {config : Config} (safe : SoundConfig config) (calls before behind : Li
   abbrev proposedOther : ℕ → Bool
   proposedOther = hasDoneProposal (other v) (turns config calls) round
 
-  this-rule : (k : ℕ) → (proposedThis k ≡ true) ↔ Standing (held (last config before)) round k (codeOf v)
+  this-rule : (k : ℕ) → (proposedThis k ≡ true) ↔ Standing config (held (last config before)) round k (codeOf v)
   this-rule k =
       let rule = proposed-rule (λ code. eqb code (codeOf v)) (turns config before) round k in
       let stands = proposed-stands safe before v in (
@@ -51,16 +49,16 @@ module _ {config : Config} (safe : SoundConfig config) (calls before behind : Li
         λ s. rule .1 (v, stands .1 s, eq-eqb (codeOf v) (codeOf v) refl),
       )
 
-  this-or-other : (k w : ℕ) → Standing (held (last config before)) round k w → proposedThis k || proposedOther k ≡ true
+  this-or-other : (k w : ℕ) → Standing config (held (last config before)) round k w → proposedThis k || proposedOther k ≡ true
   this-or-other k w s =
       cases (eqb w (codeOf v))
       (λ e. rw (this-rule k .1 (rw (eqb-true w (codeOf v) e) at s)))
       (λ e. let proposed = proposed-more config before behind split (standing-proposed safe before s) in
-      rw (proposed-rule (other v) (turns config calls) round k .1 (meant w, proposed, rw (one-to-one .forth w, e)), or-true))
+      rw (proposed-rule (other v) (turns config calls) round k .1 (offsetOf w, proposed, rw (one-to-one .forth w, e)), or-true))
 
   -- at most t members of a set proposed v there: q is their set
   abbrev FewThis : ℕ → Type 0
-  FewThis set = (q : ℕ) → ((k : ℕ) → Member k q ↔ (Member k set × Standing (held (last config before)) round k (codeOf v))) → ones q ≤ config .t
+  FewThis set = (q : ℕ) → ((k : ℕ) → Member k q ↔ (Member k set × Standing config (held (last config before)) round k (codeOf v))) → ones q ≤ config .t
 
   module _ (set : ℕ) (inside : within (config .n) set ≡ true) where
     this-few : FewThis set → counted proposedThis (config .n) 1 set ≤ config .t
@@ -74,14 +72,15 @@ pub no-bottom : {config : Config} {d : Decision} → SoundConfig config → (cal
 no-bottom {config} safe calls s v others is-bottom =
     let b = borne safe calls s in
     let entry = b .call .entry in
-    let none : decidedOf entry ≡ bottom = sym (one-to-one .forth (decidedOf entry)) ∙ ap codeOf (borne-offset safe calls s ∙ is-bottom) in
-    let rule = cas-bottom-rule config _ (b .call) (safe .default) (entries safe (b .before)) (b .code) none .0 (b .permitted) in
+    let none : decidedCode entry ≡ bottom = sym (one-to-one .forth (decidedCode entry)) ∙ ap codeOf (borne-offset safe calls s ∙ is-bottom) in
+    let rule = permitted-cas config _ (b .call) safe (b .code) .0 (b .permitted) in
+    let bears = bottom-borne none (rule .1) in
     let inside = within-rule (config .n) (setOf entry) .1 (rule .0 .members) in
     let round = roundOf entry in
     let this = proposedThis safe calls (b .before) (b .call ∷ b .behind) (b .split) round v in
     let other = proposedOther safe calls (b .before) (b .call ∷ b .behind) (b .split) round v in
-    let many = quorum (config .n) (config .t) (setOf entry) this other (omega (arith, safe .enough)) inside (rule .1 .enough)
-    (λ k member. let p = rule .1 .each k member in this-or-other safe calls (b .before) (b .call ∷ b .behind) (b .split) round v k (p .0) (p .1))
-    (this-few safe calls (b .before) (b .call ∷ b .behind) (b .split) round v (setOf entry) inside (rule .1 .few (codeOf v))) in
+    let many = quorum (config .n) (config .t) (setOf entry) this other (omega (arith, safe .enough)) inside (bears .enough)
+    (λ k member. let p = bears .each k member in this-or-other safe calls (b .before) (b .call ∷ b .behind) (b .split) round v k (p .0) (p .1))
+    (this-few safe calls (b .before) (b .call ∷ b .behind) (b .split) round v (setOf entry) inside (bears .few (codeOf v))) in
     let few : amount other (config .n) 1 ≤ config .t = rw (borne-round safe calls s) others in
     omega arith

@@ -10,8 +10,7 @@ use borrow.Author.Tests.{eqb-true, eqb-false, not-true}
 use borrow.Table.Steps.{cases}
 use Rattle.runs.specs.Correct.{amount}
 use Rattle.runs.specs.Laws.{Quorum}
-use Rattle.space.specs.Laws.{Member}
-use Rattle.space.specs.Members.{beyond, within, counted}
+use Rattle.space.specs.Members.{Member, beyond, within, counted}
 use Rattle.space.proofs.MemberLaws.{Bit, lowest, higher, bit-member, onward, counted-rule}
 
 -- ---- counts

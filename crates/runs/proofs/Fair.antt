@@ -1,14 +1,13 @@
--- The tuples of a run under policy 2: entries of which each is a proposal or a decision, no two with one key; each call leaves such tuples, and
+-- The tuples of a run: entries of which each is a proposal or a decision, no two with one key; each call leaves such tuples, and
 -- nothing leaves. From the laws of the space.
 use mathlib.Core.Path.{_≡_, refl, sym, ap, _∙_, subst}
-use native.Mathlib.Omega.{arith}
 use mathlib.Core.List.{List, []}
 use Rattle.runs.specs.Theorem.{SoundConfig}
-use Rattle.runs.proofs.Configs.{config-sound}
+use Rattle.runs.proofs.Configs.{config-advance}
 use Rattle.space.specs.declared.config.Config.{Config}
 use Rattle.space.specs.Spaces.{held, spaceOf}
-use Rattle.space.proofs.Advances.{Tidy, tidy-none, Advance, advance}
-use Rattle.space.proofs.RunSteps.{Run, next, none-lawful}
+use Rattle.calls.proofs.Advances.{Tidy, tidy-none, Advance}
+use Rattle.calls.proofs.RunSteps.{Run, next, none-lawful}
 use Rattle.space.proofs.SpaceRules.{Lawful, held-of}
 use Rattle.tuple.specs.declared.field.Tuple.{Tuple}
 use Rattle.tuple.specs.declared.field.Call.{Call}
@@ -30,7 +29,7 @@ pub record FairStep (config : Config) (tuples : List Tuple) (call : Call) : Type
 
 pub fair-step : {config : Config} → SoundConfig config → {tuples : List Tuple} → Fair config tuples → (call : Call) → FairStep config tuples call
 fair-step {config} s {tuples} fair call =
-    let step = advance config (config-sound s) (omega (arith, s .default)) tuples (fair .tidy) call in
+    let step = config-advance s tuples (fair .tidy) call in
     let run : Run config (spaceOf config tuples) = record { tuples = tuples; lawful = fair .lawful; same = refl } in
     let then = next {call = call} run .run in
     let same : then .tuples ≡ step .next = same-tuples config (then .tuples) (step .next) (sym (then .same) ∙ step .space) in

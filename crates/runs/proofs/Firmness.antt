@@ -1,26 +1,25 @@
 -- Where at most t processes proposed something other than v, every decision is v; and so where all correct processes that proposed did propose v.
 use mathlib.Core.Path.{_≡_, sym, ap, _∙_}
-use mathlib.Core.Bool.{true, false, false≢true, not}
+use mathlib.Core.Bool.{true, false≢true, not}
 use mathlib.Core.List.{List}
 use Prim.Native.Nat.{ℕ, _≤_}
 use native.Mathlib.Omega.{arith}
 use lib.Dec.{eqb}
 use borrow.Author.Tests.{eqb-true, eqb-false, not-true}
 use borrow.Table.Steps.{cases}
-use Rattle.runs.specs.Correct.{Decision, correct}
-use Rattle.runs.specs.Decisions.{DoneProposal, hasDoneProposal, GivenOut}
+use Rattle.runs.specs.Correct.{Correct, correct}
+use Rattle.runs.specs.Decisions.{Decision, DoneProposal, hasDoneProposal, GivenOut}
 use Rattle.runs.specs.Laws.{Firm}
-use Rattle.runs.specs.Theorem.{SoundConfig, FewFaulty, Correct}
+use Rattle.runs.specs.Theorem.{SoundConfig, FewFaulty}
 use Rattle.runs.proofs.Bearing.{backed}
 use Rattle.runs.proofs.Bottom.{no-bottom}
 use Rattle.runs.proofs.Counts.{amount-more, pigeon}
 use Rattle.runs.proofs.Proposing.{other, FewOthers}
 use Rattle.runs.proofs.Standing.{Stands, Logged, stands}
-use Rattle.runs.proofs.Tests.{proposed-rule, same-code}
+use Rattle.runs.proofs.Tests.{correct-rule, proposed-rule, same-code}
 use Rattle.space.specs.declared.config.Config.{Config}
-use Rattle.space.specs.RunLaws.{last}
+use Rattle.calls.specs.Turns.{last, turns}
 use Rattle.space.specs.Spaces.{held}
-use Rattle.space.specs.Turns.{turns}
 use Rattle.tuple.specs.declared.field.Call.{Call}
 use Rattle.tuple.specs.declared.offset.Offset.{Offset}
 use Rattle.tuple.specs.declared.offset.Offset.the-variants.{Bottom}
@@ -54,7 +53,7 @@ module _ {config : Config} {calls : List Call} (safe : SoundConfig config) (logg
     other-faulty process some few h =
         cases (correct config calls process)
         (λ e. let p = proposed-rule (other v) (turns config calls) round process .0 h in
-        let w = same process (p .0) (record { some = some; few = few; follows = e }) (p .1) in
+        let w = same process (p .0) (correct-rule config calls process some few .0 e) (p .1) in
         absurd (eqb-false (codeOf (p .0)) (codeOf v) (not-true _ (p .2)) (ap codeOf w)))
         (λ e. rw e)
 

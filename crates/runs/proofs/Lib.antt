@@ -2,6 +2,7 @@ pub mod Agreement
 pub mod Answers
 pub mod Bearing
 pub mod Bottom
+pub mod BottomCast
 pub mod Casting
 pub mod Configs
 pub mod Counts
@@ -10,6 +11,7 @@ pub mod Firmness
 pub mod Following
 pub mod Going
 pub mod Inhabits
+pub mod Knowing
 pub mod Prompt
 pub mod Promptness
 pub mod Proposing
@@ -22,3 +24,4 @@ pub mod Tests
 pub mod Turning
 pub mod Validity
 pub mod Watching
+pub mod Wrong

@@ -9,19 +9,16 @@ use Rattle.runs.specs.Correct.{amount}
 use Rattle.runs.specs.Decisions.{DoneProposal, hasDoneProposal}
 use Rattle.runs.specs.Theorem.{SoundConfig}
 use Rattle.runs.proofs.Answers.{turn-put}
-use Rattle.runs.proofs.Configs.{config-run, config-rules}
+use Rattle.runs.proofs.Configs.{permitted-out, config-rules}
 use Rattle.runs.proofs.Turning.{turn-more}
 use Rattle.space.specs.declared.config.Config.{Config}
-use Rattle.space.specs.Laws.{Entries, Proposed as Standing}
-use Rattle.space.specs.Proposals.{offsetOf}
-use Rattle.space.specs.RunLaws.{last}
+use Rattle.space.specs.Proposals.{Proposed as Standing}
+use Rattle.space.specs.Shapes.{proposedCode}
+use Rattle.calls.specs.Turns.{last, turns}
 use Rattle.space.specs.Spaces.{held}
-use Rattle.space.specs.Turns.{turns}
-use Rattle.space.proofs.PolicyLaws.{out-rule}
-use Rattle.space.proofs.RunSteps.{held-run}
 use Rattle.tuple.specs.declared.field.Call.{Call}
 use Rattle.tuple.specs.declared.offset.Offset.{Offset}
-use Rattle.tuple.specs.Offsets.{codeOf, offsetOf as meant}
+use Rattle.tuple.specs.Offsets.{codeOf, offsetOf}
 use Rattle.tuple.proofs.OffsetLaws.{one-to-one}
 
 -- the codes of other offsets than v
@@ -47,41 +44,33 @@ proposed-more config before behind split p =
       of = p .of;
     }
 
-module _ {config : Config} (safe : SoundConfig config) (calls : List Call) where
-  pub entries : Entries (held (last config calls))
-  entries = let run = config-run safe calls in rw (held-run run) (run .lawful .entries)
-
 module _ {config : Config} (safe : SoundConfig config) (calls : List Call) {round process : ℕ} where
-  pub standing-proposed : {w : ℕ} → Standing (held (last config calls)) round process w → DoneProposal (turns config calls) round process (meant w)
+  pub standing-proposed : {w : ℕ} → Standing config (held (last config calls)) round process w → DoneProposal (turns config calls) round process (offsetOf w)
   standing-proposed s =
-      let own = config-rules safe calls .own-out (s .tuple) (s .stands) (s .shape) in
+      let own = config-rules safe calls .own-out (s .placed .tuple) (s .placed .stands) (s .placed .shape) in
       record {
         turn = own .turn;
         occurs = own .occurs;
-        own = own .own ∙ s .by;
+        own = own .own ∙ s .placed .by;
         code = own .code;
         done = own .done;
-        shape = rw (own .entry) (s .shape);
-        in-round = rw (own .entry) (s .in-round);
-        by = rw (own .entry) (s .by);
-        of = rw (own .entry) (ap meant (s .of));
+        shape = rw (own .entry) (s .placed .shape);
+        in-round = rw (own .entry) (s .placed .in-round);
+        by = rw (own .entry) (s .placed .by);
+        of = rw (own .entry) (ap offsetOf (s .of));
       }
 
-  proposed-standing : {v : Offset} → DoneProposal (turns config calls) round process v → Standing (held (last config calls)) round process (codeOf v)
+  proposed-standing : {v : Offset} → DoneProposal (turns config calls) round process v → Standing config (held (last config calls)) round process (codeOf v)
   proposed-standing {v} p =
       let put = turn-put safe calls (p .occurs) (rw (p .done)) in
       let entry = p .turn .call .entry in
-      let own = out-rule config _ (p .turn .call) (safe .default) (entries safe (put .before)) (p .code) .0 (put .permitted) in
-      let code : offsetOf entry ≡ codeOf v = sym (one-to-one .forth (offsetOf entry)) ∙ ap codeOf (p .of) in
+      let own = permitted-out safe _ (p .turn .call) (p .code) .0 (put .permitted) in
+      let code : proposedCode entry ≡ codeOf v = sym (one-to-one .forth (proposedCode entry)) ∙ ap codeOf (p .of) in
       record {
-        tuple = entry;
-        stands = put .there;
-        shape = p .shape;
-        in-round = p .in-round;
-        by = p .by;
+        placed = record { tuple = entry; stands = put .there; shape = p .shape; in-round = p .in-round; by = p .by };
         of = code;
-        no-bottom = λ none. own .no-bottom (code ∙ none);
+        may = rw code at (own .may);
       }
 
-  pub proposed-stands : (v : Offset) → DoneProposal (turns config calls) round process v ↔ Standing (held (last config calls)) round process (codeOf v)
+  pub proposed-stands : (v : Offset) → DoneProposal (turns config calls) round process v ↔ Standing config (held (last config calls)) round process (codeOf v)
   proposed-stands v = (proposed-standing, λ s. rw (one-to-one .back) at (standing-proposed s))

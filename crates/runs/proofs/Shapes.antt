@@ -7,16 +7,18 @@ use lib.ListN.{length}
 use lib.Dec.{eqb}
 use borrow.Author.Tests.{eqb-true}
 use Rattle.process.specs.Asks.{proposalTemplate, decisionTemplate}
+use Rattle.runs.proofs.Configs.{Sort}
+use Rattle.runs.proofs.Configs.Sort.{proposal, decision}
 use Rattle.space.specs.declared.config.Config.{Config}
-use Rattle.space.specs.Proposals.{processOf}
-use Rattle.space.specs.Shapes.{field, is, says, isProposal, isDecision, roundOf}
-use Rattle.space.proofs.Advances.{Kind}
-use Rattle.space.proofs.Advances.Kind.{proposal, decision}
-use Rattle.space.proofs.Decisions.{four, within-fields}
+use Rattle.policy.specs.Shapes.{setOf, isDecision}
+use Rattle.space.specs.Members.{within}
+use Rattle.space.specs.Shapes.{processOf, isProposal, roundOf}
+use Rattle.tuple.specs.Shapes.{field, is, says}
+use Rattle.calls.proofs.Effects.{Proposal}
+use Rattle.space.proofs.ShapeLaws.{four, within-fields}
 use Rattle.tuple.specs.declared.field.Field.{Field}
 use Rattle.tuple.specs.declared.field.Tuple.{Tuple}
-use Rattle.tuple.specs.Fields.{word, count, offset, processSet, defined, propose}
-use Rattle.tuple.specs.Fields.{decision as decided}
+use Rattle.tuple.specs.Fields.{word, count, offset, processSet, defined, propose, decision as decided}
 use Rattle.tuple.specs.Matching.{matches}
 use Rattle.tuple.proofs.MatchRules.{matches-rule}
 
@@ -77,25 +79,24 @@ proposal-matches tuple round process h r p =
       ],
     )
 
-module _ {config : Config} (two : config .policy ≡ 2) {tuple : Tuple} where
+module _ {config : Config} {tuple : Tuple} where
   -- what matches it is one
-  pub matches-proposal : (round process : ℕ) → Kind config tuple → matches (proposalTemplate round process) tuple ≡ true
-      → (isProposal tuple ≡ true) × (roundOf tuple ≡ round) × (processOf tuple ≡ process)
+  pub matches-proposal : (round process : ℕ) → Sort config tuple → matches (proposalTemplate round process) tuple ≡ true
+      → Proposal config tuple × (roundOf tuple ≡ round) × (processOf tuple ≡ process)
   matches-proposal round process (proposal p) h =
       let fits = matches-rule (proposalTemplate round process) tuple (omega arith) (proposal-shape tuple (p .shape) .long) .0 h .1 in
-      (p .shape, sym (fits 1 (omega arith) .value refl), sym (fits 2 (omega arith) .value refl))
-  matches-proposal round process (decision d) h =
-      let s = decision-shape tuple (rw two at (d .shape)) in
+      (p, sym (fits 1 (omega arith) .value refl), sym (fits 2 (omega arith) .value refl))
+  matches-proposal round process (decision shaped inside) h =
+      let s = decision-shape tuple shaped in
       let fits = matches-rule (proposalTemplate round process) tuple (omega arith) (s .long) .0 h .1 in
       absurd (omega (arith, fits 0 (omega arith) .value refl, s .first .1))
 
   -- what matches a template for a decision is one
-  pub matches-decision : (round : ℕ) → Kind config tuple → matches (decisionTemplate round) tuple ≡ true
-      → (isDecision tuple ≡ true) × (roundOf tuple ≡ round)
-  matches-decision round (decision d) h =
-      let shaped : isDecision tuple ≡ true = rw two at (d .shape) in
+  pub matches-decision : (round : ℕ) → Sort config tuple → matches (decisionTemplate round) tuple ≡ true
+      → (isDecision tuple ≡ true) × (roundOf tuple ≡ round) × (within (config .n) (setOf tuple) ≡ true)
+  matches-decision round (decision shaped inside) h =
       let fits = matches-rule (decisionTemplate round) tuple (omega arith) (decision-shape tuple shaped .long) .0 h .1 in
-      (shaped, sym (fits 1 (omega arith) .value refl))
+      (shaped, sym (fits 1 (omega arith) .value refl), inside)
   matches-decision round (proposal p) h =
       let s = proposal-shape tuple (p .shape) in
       let fits = matches-rule (decisionTemplate round) tuple (omega arith) (s .long) .0 h .1 in

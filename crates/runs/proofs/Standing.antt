@@ -3,29 +3,28 @@ use mathlib.Core.Path.{_≡_, refl}
 use mathlib.Core.Bool.{true, false≢true, and-eq-true-iff}
 use mathlib.Core.List.{List, [], _∷_, _++_, List·Memᴰ}
 use mathlib.Core.Logic.{⊎-elim}
-use Prim.Native.Nat.{ℕ, _≤_, _<_}
+use Prim.Native.Nat.{ℕ, _<_}
 use native.Mathlib.Omega.{arith}
 use lib.Dec.{eqb}
 use lib.ListN.{length, take, getD}
-use borrow.Author.Tests.{eqb-true, ne-eqb}
-use Rattle.runs.specs.Correct.{Decision, Watch, right, judged}
-use Rattle.runs.specs.Decisions.{GivenOut}
+use borrow.Author.Tests.{eqb-true}
+use Rattle.runs.specs.Decisions.{Decision, HasDecided, GivenOut}
 use Rattle.runs.specs.Theorem.{SoundConfig}
-use Rattle.runs.proofs.Answers.{stays, turn-put, call-shows}
-use Rattle.runs.proofs.Configs.{config-rules}
+use Rattle.runs.proofs.Answers.{turn-put, call-shows}
+use Rattle.runs.proofs.Configs.{config-rules, stays, permitted-cas}
 use Rattle.runs.proofs.Turning.{by-turn}
 use Rattle.space.specs.declared.config.Config.{Config}
-use Rattle.space.specs.Default.{decidedOf, isDecisionCall, bears, default}
-use Rattle.space.specs.Laws.{DecisionCall}
-use Rattle.space.specs.Policies.{permits}
-use Rattle.space.specs.RunLaws.{last}
-use Rattle.space.specs.Shapes.{field, is, says, roundOf, isProposal, isDecisionTemplate, isDecision}
+use Rattle.policy.specs.Shapes.{decidedCode, isDecisionTemplate, isDecision}
+use Rattle.policy.specs.Laws.{DecisionCall}
+use Rattle.policy.specs.declared.verdicts.Verdict.the-variants.{Permit}
+use Rattle.policy.specs.Policies.{verdictOn}
+use Rattle.calls.specs.Turns.{last, Turn, applied, turns}
+use Rattle.tuple.specs.Shapes.{field, is, says}
+use Rattle.space.specs.Shapes.{roundOf, isProposal}
 use Rattle.space.specs.Spaces.{held}
-use Rattle.space.specs.Turns.{Turn, applied, turns}
-use Rattle.space.proofs.CallSteps.{Puts}
-use Rattle.space.proofs.CallSteps.Puts.{by-out, by-cas}
-use Rattle.space.proofs.Decisions.{four, within-fields, proposal-parts}
-use Rattle.space.proofs.PolicyLaws.{decision-rule}
+use Rattle.calls.proofs.CallSteps.{Puts}
+use Rattle.calls.proofs.CallSteps.Puts.{by-out, by-cas}
+use Rattle.space.proofs.ShapeLaws.{four, within-fields, proposal-parts}
 use Rattle.tuple.specs.declared.field.Field.{Field}
 use Rattle.tuple.specs.declared.field.Tuple.{Tuple}
 use Rattle.tuple.specs.declared.field.Call.{Call}
@@ -34,7 +33,7 @@ use Rattle.tuple.specs.declared.reply.Outcome.the-variants.{Inserted, Held}
 use Rattle.tuple.specs.Faults.{isDefined}
 use Rattle.tuple.specs.Fields.{word, propose, decision, defined, processSet, wildcard, cas, blankField}
 use Rattle.tuple.specs.Matching.{fieldMatches, fieldsMatch, matches}
-use Rattle.tuple.specs.Offsets.{offsetOf as meant}
+use Rattle.tuple.specs.Offsets.{offsetOf}
 
 -- the decision is that of a tuple of the list
 pub record Stands (tuples : List Tuple) (d : Decision) : Type 0 where
@@ -42,11 +41,11 @@ pub record Stands (tuples : List Tuple) (d : Decision) : Type 0 where
   pub there : List·Memᴰ tuple tuples
   pub shape : isDecision tuple ≡ true
   pub in-round : roundOf tuple ≡ d .round
-  pub of : meant (decidedOf tuple) ≡ d .offset
+  pub of : offsetOf (decidedCode tuple) ≡ d .offset
 
 -- the decision of a tuple
 abbrev pub decisionOf : Tuple → Decision
-decisionOf tuple = record { round = roundOf tuple; offset = meant (decidedOf tuple) }
+decisionOf tuple = record { round = roundOf tuple; offset = offsetOf (decidedCode tuple) }
 
 -- ---- what matches a decision's template is no proposal
 
@@ -83,17 +82,14 @@ puts-cas (by-cas e none) same = e
 
 module _ {config : Config} (safe : SoundConfig config) where
   -- a cas that the policy permitted has the two shapes
-  pub decision-call : (tuples : List Tuple) (call : Call) → permits config tuples call ≡ true → call .code ≡ cas → DecisionCall config call
-  unfolding permits default isDecisionCall
-  decision-call tuples call permitted code =
-      let tests : default config tuples call ≡ true = rw (ne-eqb (config .policy) 0 (λ e. omega arith), ne-eqb (config .policy) 1 (λ e. omega arith)) at permitted in
-      decision-rule config tuples call .0 (and-eq-true-iff (isDecisionCall (config .n) call) (bears config tuples (call .entry)) .0 (rw code at tests) .0)
+  decision-call : (before : List Call) (call : Call) → verdictOn config (held (last config before)) call ≡ Permit → call .code ≡ cas → DecisionCall config call
+  decision-call before call permitted code = permitted-cas config _ call safe code .0 permitted .0
 
   pub inserted-stands : {turn : Turn} (calls : List Call) → List·Memᴰ turn (turns config calls) → turn .reply .outcome ≡ Inserted
       → Stands (held (last config calls)) (decisionOf (turn .call .entry))
   inserted-stands {turn} calls occurs answer =
       let put = turn-put safe calls occurs (rw answer) in
-      let shaped = decision-call _ (turn .call) (put .permitted) (puts-cas (put .puts) answer) in
+      let shaped = decision-call (put .before) (turn .call) (put .permitted) (puts-cas (put .puts) answer) in
       record { tuple = turn .call .entry; there = put .there; shape = shaped .entry; in-round = refl; of = refl }
 
   call-held : (before behind : List Call) (call : Call) → applied (last config before) call .reply .outcome ≡ Held
@@ -101,7 +97,7 @@ module _ {config : Config} (safe : SoundConfig config) where
   call-held before behind call answer =
       let shows = call-shows safe before call (rw answer) in
       let tuple = applied (last config before) call .reply .tuple in
-      let shaped = decision-call _ call (shows .permitted) (shows .shown .by-cas answer) in
+      let shaped = decision-call before call (shows .permitted) (shows .shown .by-cas answer) in
       record {
         tuple = tuple;
         there = stays safe before (call ∷ behind) (shows .shown .there);
@@ -119,13 +115,10 @@ module _ {config : Config} (safe : SoundConfig config) where
 
 -- what a correct process's states gave stands
 abbrev pub Logged : Config → List Call → Type 0
-Logged config calls =
-    (process : ℕ) (watch : Watch) (d : Decision) → 1 ≤ process → process ≤ config .n → judged config calls process ≡ right watch
-    → List·Memᴰ d (watch .decisions)
-    → Stands (held (last config calls)) d
+Logged config calls = (process : ℕ) (d : Decision) → HasDecided config calls process d → Stands (held (last config calls)) d
 
 module _ {config : Config} {calls : List Call} (safe : SoundConfig config) (logged : Logged config calls) where
   pub stands : {d : Decision} → GivenOut config calls d → Stands (held (last config calls)) d
   stands (GivenOut.by-inserted turn occurs answer) = inserted-stands safe calls occurs answer
   stands (GivenOut.by-held turn occurs answer) = held-stands safe calls occurs answer
-  stands (GivenOut.by-state process watch d some few follows given) = logged process watch d some few follows given
+  stands (GivenOut.by-state process d has) = logged process d has

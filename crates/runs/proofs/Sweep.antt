@@ -13,11 +13,11 @@ use borrow.Author.Tests.{leb-true, leb-false, ltb-true, ltb-false, eqb-true, eqb
 use borrow.Table.Steps.{cases}
 use Rattle.process.specs.Laws.{NextRule}
 use Rattle.process.specs.Tallies.{foundOf, backing, settled}
-use Rattle.process.proofs.TallyLaws.{settled-rule}
+use Rattle.process.proofs.TallyLaws.{reading-ends}
 use Rattle.runs.specs.Correct.{amount}
 use Rattle.runs.proofs.Casting.{found-bottom}
 use Rattle.space.specs.declared.config.Config.{Config}
-use Rattle.space.specs.Proposals.{bottom}
+use Rattle.tuple.specs.Offsets.{bottom}
 use Rattle.space.proofs.MemberLaws.{onward}
 
 module _ (test : ℕ → Bool) where
@@ -38,11 +38,11 @@ module _ (test : ℕ → Bool) where
   module _ (config : Config) (enough : config .n - config .t ≤ amount test (config .n) 1) where
     pub all-found : (found : List ℕ) → ((k : ℕ) → 1 ≤ k → k ≤ config .n → test k ≡ true → foundOf found k ≡ 0 → ⊥) → settled config found ≡ true
     all-found found h =
-        settled-rule config found .1 (inr (omega (
+        reading-ends config found (omega (
           arith,
           amount-found (config .n) 1 found (λ j b t z.
               let same : 1 + j - 1 ≡ j = omega arith in h (1 + j) (omega arith) (omega arith) t (ap (λ (i : ℕ). getD found i 0) same ∙ z)),
-        )))
+        ))
 
   -- ---- from where it read first
 

@@ -1,4 +1,4 @@
--- The tests of equal calls and of proposals are what they should be, from the definitions and the coding of offsets.
+-- The tests of equal calls, of correct processes and of proposals are what they should be, from the definitions and the coding of offsets.
 use mathlib.Core.Path.{_≡_, refl, ap, ap₂, sym, _∙_}
 use mathlib.Core.Bool.{Bool, true, false≢true, _&&_, or-true, and-eq-true-iff}
 use mathlib.Core.List.{List, [], _∷_, List·Memᴰ, List·Memᴰ·head, List·Memᴰ·tail, List·Memᴰ·not-nil, List·Memᴰ·cases-cons}
@@ -8,12 +8,11 @@ use native.Mathlib.Omega.{arith}
 use lib.Dec.{eqb}
 use borrow.Author.Tests.{eqb-true, eq-eqb}
 use borrow.Table.Steps.{cases}
-use Rattle.runs.specs.Correct.{sameField, sameFields, sameTuple, sameCall}
+use Rattle.runs.specs.Correct.{sameField, sameFields, sameTuple, sameCall, Finding, right, wrong, monitored, Correct, isRight, correct}
 use Rattle.runs.specs.Decisions.{isDone, proposesIn, hasDoneProposal}
-use Rattle.runs.specs.Laws.{SameCallRule, ProposedRule}
-use Rattle.space.specs.Proposals.{processOf, offsetOf}
-use Rattle.space.specs.Shapes.{roundOf, isProposal}
-use Rattle.space.specs.Turns.{Turn}
+use Rattle.runs.specs.Laws.{SameCallRule, CorrectRule, DoneProposalRule}
+use Rattle.space.specs.Shapes.{processOf, proposedCode, roundOf, isProposal}
+use Rattle.calls.specs.Turns.{Turn}
 use Rattle.tuple.specs.declared.field.Field.{Field}
 use Rattle.tuple.specs.declared.field.Tuple.{Tuple}
 use Rattle.tuple.specs.declared.field.Call.{Call}
@@ -21,7 +20,7 @@ use Rattle.tuple.specs.declared.offset.Offset.{Offset}
 use Rattle.tuple.specs.declared.reply.Outcome.{Outcome}
 use Rattle.tuple.specs.declared.reply.Outcome.the-variants.{Done, None, Found, Inserted, Held, Refused}
 use Rattle.tuple.specs.Fields.{out}
-use Rattle.tuple.specs.Offsets.{codeOf, offsetOf as meant}
+use Rattle.tuple.specs.Offsets.{codeOf, offsetOf}
 use Rattle.tuple.proofs.OffsetLaws.{one-to-one}
 
 -- ---- equal calls
@@ -77,6 +76,16 @@ same-call-rule a b =
       λ e. parts .1 ((((cc), cc), cc), cc),
     )
 
+-- ---- correct processes
+
+pub correct-rule : CorrectRule
+unfolding correct
+correct-rule config calls process some few = (of (monitored config calls process) refl, λ c. rw (c .stands))
+  where
+    of : (finding : Finding) → monitored config calls process ≡ finding → isRight finding ≡ true → Correct config calls process
+    of (right watch) e h = record { some = some; few = few; watch = watch; stands = e }
+    of (wrong number) e h = absurd (false≢true h)
+
 -- ---- proposals
 
 is-done : (outcome : Outcome) → isDone outcome ≡ true → outcome ≡ Done
@@ -96,12 +105,12 @@ module _ (test : ℕ → Bool) (round process : ℕ) where
     shape : isProposal (turn .call .entry) ≡ true
     in-round : roundOf (turn .call .entry) ≡ round
     by : processOf (turn .call .entry) ≡ process
-    passes : test (offsetOf (turn .call .entry)) ≡ true
+    passes : test (proposedCode (turn .call .entry)) ≡ true
 
   passes-rule : (turn : Turn) → (proposesIn test round process turn ≡ true) ↔ Passes turn
   unfolding proposesIn
   passes-rule turn = (
-    λ h. let passes = and-eq-true-iff _ (test (offsetOf (turn .call .entry))) .0 h in
+    λ h. let passes = and-eq-true-iff _ (test (proposedCode (turn .call .entry))) .0 h in
         let by = and-eq-true-iff _ (eqb (processOf (turn .call .entry)) process) .0 (passes .0) in
         let in-round = and-eq-true-iff _ (eqb (roundOf (turn .call .entry)) round) .0 (by .0) in
         let shape = and-eq-true-iff _ (isProposal (turn .call .entry)) .0 (in-round .0) in
@@ -136,12 +145,12 @@ module _ (test : ℕ → Bool) (round process : ℕ) where
         | inr later ↦ rw (passes-some rest turn later p, or-true)
       ]
 
-pub proposed-rule : ProposedRule
+pub proposed-rule : DoneProposalRule
 proposed-rule test list round process = (
   λ h. let found = some-passes test round process list h in
       let turn = found .0 in
       let p = found .2 in (
-        meant (offsetOf (turn .call .entry)),
+        offsetOf (proposedCode (turn .call .entry)),
         record {
           turn = turn;
           occurs = found .1;
@@ -153,10 +162,10 @@ proposed-rule test list round process = (
           by = p .by;
           of = refl;
         },
-        rw (one-to-one .forth (offsetOf (turn .call .entry))) (p .passes),
+        rw (one-to-one .forth (proposedCode (turn .call .entry))) (p .passes),
       ),
   λ h. let p = h .1 in
-      let code : codeOf (h .0) ≡ offsetOf (p .turn .call .entry) = ap codeOf (sym (p .of)) ∙ one-to-one .forth (offsetOf (p .turn .call .entry)) in
+      let code : codeOf (h .0) ≡ proposedCode (p .turn .call .entry) = ap codeOf (sym (p .of)) ∙ one-to-one .forth (proposedCode (p .turn .call .entry)) in
       passes-some test round process list (p .turn) (p .occurs)
       (record {
         own = p .own;
@@ -171,4 +180,4 @@ proposed-rule test list round process = (
 
 -- two offsets with one code are one
 pub same-code : (v w : Offset) → codeOf v ≡ codeOf w → v ≡ w
-same-code v w e = sym (one-to-one .back v) ∙ ap meant e ∙ one-to-one .back w
+same-code v w e = sym (one-to-one .back v) ∙ ap offsetOf e ∙ one-to-one .back w

@@ -5,10 +5,9 @@ use mathlib.Core.Logic.{inl, inr}
 use Rattle.runs.specs.Theorem.{turnOn}
 use Rattle.space.specs.declared.config.Config.{Config}
 use Rattle.space.specs.declared.space.Space.{Space}
-use Rattle.space.specs.RunLaws.{lastOf, after, last}
+use Rattle.calls.specs.Turns.{lastOf, after, last, Turn, applied, turnsFrom, turns}
 use Rattle.space.specs.Spaces.{freshOf}
-use Rattle.space.specs.Turns.{Turn, applied, turnsFrom, turns}
-use Rattle.space.proofs.SumLaws.{after-append}
+use Rattle.calls.proofs.SumLaws.{after-append}
 use Rattle.tuple.specs.declared.field.Call.{Call}
 
 -- ---- from any space

@@ -5,14 +5,15 @@ use mathlib.Core.List.{List}
 use Prim.Native.Nat.{ℕ}
 use native.Mathlib.Omega.{arith}
 use borrow.Author.Tests.{not-false}
-use Rattle.runs.specs.Correct.{Decision, correct}
-use Rattle.runs.specs.Decisions.{DoneProposal, GivenOut}
-use Rattle.runs.specs.Theorem.{SoundConfig, FewFaulty, Correct}
+use Rattle.runs.specs.Correct.{Correct, correct}
+use Rattle.runs.specs.Decisions.{Decision, DoneProposal, GivenOut}
+use Rattle.runs.specs.Theorem.{SoundConfig, FewFaulty}
 use Rattle.runs.proofs.Bearing.{backed}
 use Rattle.runs.proofs.Counts.{pigeon}
 use Rattle.runs.proofs.Standing.{Logged, stands}
+use Rattle.runs.proofs.Tests.{correct-rule}
 use Rattle.space.specs.declared.config.Config.{Config}
-use Rattle.space.specs.Turns.{turns}
+use Rattle.calls.specs.Turns.{turns}
 use Rattle.space.proofs.MemberLaws.{within-rule}
 use Rattle.tuple.specs.declared.field.Call.{Call}
 use Rattle.tuple.specs.declared.offset.Offset.the-variants.{Bottom}
@@ -26,10 +27,7 @@ module _ {config : Config} {calls : List Call} (safe : SoundConfig config) (logg
       let process = found .0 in
       let member = found .1 in (
         process,
-        record {
-          some = member .some;
-          few = within-rule (config .n) (b .set) .0 (b .inside) process member;
-          follows = not-false (correct config calls process) (found .2);
-        },
+        correct-rule config calls process (member .some) (within-rule (config .n) (b .set) .0 (b .inside) process member) .0
+            (not-false (correct config calls process) (found .2)),
         b .each process member,
       )

@@ -1,7 +1,8 @@
 -- Document 01, "Runs": when a process is correct (01's "follows"). A monitor goes over the turns under its number: between rounds it may only
--- make the out that `started` gives for some round not yet taken and some offset; within a round only the call that the last `started` or
+-- make the out that `started` gives for some round not yet begun and some offset; within a round only the call that the last `started` or
 -- `resumed` gave; the space's reply is handed to that state. It may stop anywhere.
-use Prim.Native.Nat.{ℕ, zero, suc, _+_}
+use mathlib.Core.Path.{_≡_}
+use Prim.Native.Nat.{ℕ, zero, suc, _+_, _≤_}
 use mathlib.Core.Bool.{Bool, true, false, cond, not, _&&_, _||_}
 use mathlib.Core.List.{List, [], _∷_}
 use lib.Dec.{eqb}
@@ -11,15 +12,13 @@ use Rattle.process.specs.declared.process.Process.{Process}
 use Rattle.process.specs.declared.process.Step.{Step}
 use Rattle.process.specs.Procedure.{started, resumed}
 use Rattle.space.specs.declared.config.Config.{Config}
-use Rattle.space.specs.Proposals.{offsetOf}
-use Rattle.space.specs.Shapes.{roundOf}
-use Rattle.space.specs.Turns.{Turn, turns}
+use Rattle.space.specs.Shapes.{proposedCode, roundOf}
+use Rattle.calls.specs.Turns.{Turn, turns}
 use Rattle.tuple.specs.declared.field.Field.{Field}
 use Rattle.tuple.specs.declared.field.Tuple.{Tuple}
 use Rattle.tuple.specs.declared.field.Call.{Call}
-use Rattle.tuple.specs.declared.offset.Offset.{Offset}
 use Rattle.tuple.specs.declared.reply.Reply.{Reply}
-use Rattle.tuple.specs.Offsets.{offsetOf as meant}
+use Rattle.tuple.specs.Offsets.{offsetOf}
 
 -- ---- equal calls
 
@@ -41,25 +40,19 @@ sameCall a b =
 
 -- ---- what the monitor keeps
 
--- a round and the offset decided in it; bottom stands as an offset
-pub record Decision : Type 0 where
-  pub round : ℕ
-  pub offset : Offset
-
 -- between rounds; in one, with the state and the call that is due; or in one whose state refused the reply (`Laws.NeverStuck`)
 pub data Standing : Type 0 where
   idle : Standing
   busy : Process → Call → Standing
   stuck : Process → Standing
 
--- the rounds taken, the last one first, where the process stands, and the decisions that its states gave, the last one first
+-- the round of each of its turns, the last one first, and where the process stands
 pub record Watch : Type 0 where
-  pub taken : List ℕ
+  pub entered : List ℕ
   pub standing : Standing
-  pub decisions : List Decision
 
 abbrev pub unbegun : Watch
-unbegun = record { taken = []; standing = idle; decisions = [] }
+unbegun = record { entered = []; standing = idle }
 
 unfoldable pub listed : ℕ → List ℕ → Bool
 listed round [] = false
@@ -69,7 +62,7 @@ listed round (one ∷ rest) = eqb one round || listed round rest
 
 -- what starting the process with the round and the offset of a proposal gives
 abbrev pub startedBy : Config → ℕ → Tuple → Step
-startedBy config process entry = started config process (roundOf entry) (meant (offsetOf entry))
+startedBy config process entry = started config process (roundOf entry) (offsetOf (proposedCode entry))
 
 abbrev pub isCalls : Next → Bool
 isCalls Calls = true
@@ -78,63 +71,67 @@ isCalls (Refuses why) = false
 
 -- the call is one that it may make
 abbrev pub due : Config → ℕ → List ℕ → Standing → Call → Bool
-due config process taken idle call =
-    isCalls (startedBy config process (call .entry) .next)
-    && sameCall (startedBy config process (call .entry) .call) call
-    && not (listed (roundOf (call .entry)) taken)
-due config process taken (busy state next) call = sameCall next call
-due config process taken (stuck state) call = false
+due config process entered idle call =
+    isCalls (startedBy config process (call .entry) .next) && sameCall (startedBy config process (call .entry) .call) call
+    && not (listed (roundOf (call .entry)) entered)
+due config process entered (busy state next) call = sameCall next call
+due config process entered (stuck state) call = false
 
--- what handing a state the reply leads to
-abbrev pub handedOn : List ℕ → List Decision → Process → Step → Next → Watch
-handedOn taken decisions state step Calls = record { taken = taken; standing = busy (step .process) (step .call); decisions = decisions }
-handedOn taken decisions state step (Decides offset) =
-    record { taken = taken; standing = idle; decisions = record { round = state .round; offset = offset } ∷ decisions }
-handedOn taken decisions state step (Refuses why) = record { taken = taken; standing = stuck state; decisions = decisions }
+-- the state to which the reply to a due call is handed
+abbrev pub stateOf : Config → ℕ → Standing → Call → Process
+stateOf config process idle call = startedBy config process (call .entry) .process
+stateOf config process (busy state next) call = state
+stateOf config process (stuck state) call = state
 
-abbrev pub handed : List ℕ → List Decision → Process → Reply → Watch
-handed taken decisions state reply = handedOn taken decisions state (resumed state reply) (resumed state reply .next)
+-- where the process stands after the handing
+abbrev pub handed : Process → Step → Next → Standing
+handed state step Calls = busy (step .process) (step .call)
+handed state step (Decides offset) = idle
+handed state step (Refuses why) = stuck state
 
--- a due call has begun a round, or goes on in one; its reply is handed to the state
-abbrev pub tookTurn : Config → ℕ → Watch → Call → Reply → Standing → Watch
-tookTurn config process watch call reply idle =
-    handed (roundOf (call .entry) ∷ watch .taken) (watch .decisions) (startedBy config process (call .entry) .process) reply
-tookTurn config process watch call reply (busy state next) = handed (watch .taken) (watch .decisions) state reply
-tookTurn config process watch call reply (stuck state) = watch
+abbrev pub tookTurn : Config → ℕ → Watch → Call → Reply → Watch
+tookTurn config process watch call reply =
+    let state = stateOf config process (watch .standing) call in
+    record { entered = state .round ∷ watch .entered; standing = handed state (resumed state reply) (resumed state reply .next) }
 
 -- ---- all of its turns
 
--- the first wrong turn, or where the process stands
-pub data Verdict : Type 0 where
-  right : Watch → Verdict
-  wrong : Turn → Verdict
+-- where the process stands, or which turn is its first wrong one: its number among all turns of the run, from 1 on
+pub data Finding : Type 0 where
+  right : Watch → Finding
+  wrong : ℕ → Finding
 
-unfoldable pub watched : Config → ℕ → Watch → List Turn → Verdict
-watched config process watch [] = right watch
-watched config process watch (turn ∷ rest) =
+-- over turns from this number on
+unfoldable pub watched : Config → ℕ → ℕ → Watch → List Turn → Finding
+watched config process number watch [] = right watch
+watched config process number watch (turn ∷ rest) =
     cond (eqb (turn .call .process) process)
-    (cond (due config process (watch .taken) (watch .standing) (turn .call))
-    (watched config process (tookTurn config process watch (turn .call) (turn .reply) (watch .standing)) rest)
-    (wrong turn))
-    (watched config process watch rest)
+    (cond (due config process (watch .entered) (watch .standing) (turn .call))
+    (watched config process (number + 1) (tookTurn config process watch (turn .call) (turn .reply)) rest)
+    (wrong number))
+    (watched config process (number + 1) watch rest)
 
-unfoldable pub judged : Config → List Call → ℕ → Verdict
-judged config calls process = watched config process unbegun (turns config calls)
+unfoldable pub monitored : Config → List Call → ℕ → Finding
+monitored config calls process = watched config process 1 unbegun (turns config calls)
 
-abbrev pub isRight : Verdict → Bool
-isRight (right watch) = true
-isRight (wrong turn) = false
-
-unfoldable pub correct : Config → List Call → ℕ → Bool
-correct config calls process = isRight (judged config calls process)
+-- a process from 1 to n that is correct up to here, and what the monitor then keeps
+pub record Correct (config : Config) (calls : List Call) (process : ℕ) : Type 0 where
+  pub some : 1 ≤ process
+  pub few : process ≤ config .n
+  pub watch : Watch
+  pub stands : monitored config calls process ≡ right watch
 
 -- ---- how many
+
+abbrev pub isRight : Finding → Bool
+isRight (right watch) = true
+isRight (wrong number) = false
+
+-- the same as a test (`Laws.CorrectRule`)
+unfoldable pub correct : Config → List Call → ℕ → Bool
+correct config calls process = isRight (monitored config calls process)
 
 -- how many of the n processes from k on pass
 unfoldable pub amount : (ℕ → Bool) → ℕ → ℕ → ℕ
 amount test zero k = 0
 amount test (suc n) k = cond (test k) 1 0 + amount test n (k + 1)
-
--- how many of the processes 1 to n are faulty (01's "strays")
-abbrev pub faulty : Config → List Call → ℕ
-faulty config calls = amount (λ process. not (correct config calls process)) (config .n) 1

@@ -1,46 +1,91 @@
--- What keeps the theorem from being empty, and the fact behind unanimity, as claims over the definitions.
+-- What keeps the theorem from being empty, and the facts behind its fields, as claims over the definitions.
 use mathlib.Core.Path.{_≡_}
 use mathlib.Core.Bool.{Bool, true, false, not, _||_}
-use mathlib.Core.List.{List, [], _∷_, _++_, List·Memᴰ}
+use mathlib.Core.List.{List, [], _∷_, _++_}
 use mathlib.Core.Logic.{_↔_}
 use Prim.Native.Nat.{ℕ, _+_, _-_, _*_, _≤_, _<_}
 use lib.Count.{ones}
 use lib.Dec.{eqb}
+use lib.ListN.{length}
 use Rattle.process.specs.declared.process.Next.the-variants.{Calls}
 use Rattle.process.specs.declared.process.Process.{Process}
 use Rattle.process.specs.Fits.{fits}
 use Rattle.process.specs.Procedure.{started}
-use Rattle.runs.specs.Correct.{Decision, Standing, Watch, sameCall, listed, startedBy, due, right, judged, correct, amount}
+use Rattle.runs.specs.Correct.{Watch, sameCall, listed, due, stateOf, wrong, monitored, Correct, correct, amount}
 use Rattle.runs.specs.Correct.Standing.{idle, busy, stuck}
-use Rattle.runs.specs.Decisions.{DoneProposal, hasDoneProposal, GivenOut, HasDecided}
-use Rattle.runs.specs.Theorem.{SoundConfig, Correct}
+use Rattle.runs.specs.Decisions.{Decision, DoneProposal, hasDoneProposal, GivenOut, HasDecided}
+use Rattle.runs.specs.Theorem.{SoundConfig}
 use Rattle.space.specs.declared.config.Config.{Config}
 use Rattle.space.specs.declared.space.Opening.the-variants.{Stands}
-use Rattle.space.specs.Laws.{Member}
-use Rattle.space.specs.Members.{within, counted}
-use Rattle.space.specs.RunLaws.{last}
+use Rattle.policy.specs.Shapes.{decidedCode}
+use Rattle.space.specs.Members.{Member, within, counted}
 use Rattle.space.specs.Spaces.{spaceOf, freshOf}
-use Rattle.space.specs.Turns.{Turn, applied, turns}
+use Rattle.policy.specs.Laws.{DecisionCall, BearsOffset, BearsBottom}
+use Rattle.policy.specs.declared.verdicts.Verdict.the-variants.{Permit}
+use Rattle.policy.specs.Policies.{verdictOn}
+use Rattle.tuple.specs.Offsets.{bottom, codeOf}
+use Rattle.calls.specs.Turns.{last, Turn, applied, turns}
 use Rattle.tuple.specs.declared.field.Call.{Call}
+use Rattle.tuple.specs.declared.field.Tuple.{Tuple}
 use Rattle.tuple.specs.declared.offset.Offset.{Offset}
 use Rattle.tuple.specs.declared.offset.Offset.the-variants.{Bottom}
-use Rattle.tuple.specs.Offsets.{codeOf}
+use Rattle.tuple.specs.Fields.{cas}
 
 -- ---- the tests say what they should
 
 abbrev pub SameCallRule : Type 0
 SameCallRule = (a b : Call) → (sameCall a b ≡ true) ↔ (a ≡ b)
 
-abbrev pub ProposedRule : Type 0
-ProposedRule =
+abbrev pub CorrectRule : Type 0
+CorrectRule =
+    (config : Config) (calls : List Call) (process : ℕ)
+    → 1 ≤ process
+    → process ≤ config .n
+    → (correct config calls process ≡ true) ↔ Correct config calls process
+
+abbrev pub DoneProposalRule : Type 0
+DoneProposalRule =
     (test : ℕ → Bool) (list : List Turn) (round process : ℕ)
     → (hasDoneProposal test list round process ≡ true) ↔ ((offset : Offset) × DoneProposal list round process offset × (test (codeOf offset) ≡ true))
+
+-- a wrong turn, of this number among all: the process is correct up to there, and the call is its own and not due
+pub record FirstWrong (config : Config) (calls : List Call) (process number : ℕ) : Type 0 where
+  pub before : List Call
+  pub call : Call
+  pub behind : List Call
+  pub split : calls ≡ before ++ (call ∷ behind)
+  pub counted : length before + 1 ≡ number
+  pub correct : Correct config before process
+  pub own : call .process ≡ process
+  pub undue : due config process (correct .watch .entered) (correct .watch .standing) call ≡ false
+
+abbrev pub WrongRule : Type 0
+WrongRule =
+    (config : Config) (calls : List Call) (process number : ℕ)
+    → 1 ≤ process
+    → process ≤ config .n
+    → (monitored config calls process ≡ wrong number) ↔ FirstWrong config calls process number
 
 -- ---- a run has a space
 
 -- the fresh space of such a configuration stands, and holds nothing
 abbrev pub Opens : Type 0
 Opens = (config : Config) → SoundConfig config → freshOf config ≡ record { opening = Stands; space = spaceOf config [] }
+
+-- ---- what a decision rests on
+
+-- its set bears its offset, or bottom under policy 2
+pub data Bears (config : Config) (tuples : List Tuple) (entry : Tuple) : Type 0 where
+  bears-offset : (decidedCode entry ≡ bottom → ⊥) → BearsOffset config tuples entry → Bears config tuples entry
+  bears-bottom : config .policy ≡ 2 → decidedCode entry ≡ bottom → BearsBottom config tuples entry → Bears config tuples entry
+
+-- a cas is permitted exactly if it has a decision's shape and its set bears what it decides
+abbrev pub PermittedCas : Type 0
+PermittedCas =
+    (config : Config) (tuples : List Tuple) (call : Call)
+    → SoundConfig config
+    → call .code ≡ cas
+    → (verdictOn config tuples call ≡ Permit) ↔ (DecisionCall config call × Bears config tuples (call .entry))
 
 -- ---- behind unanimity, with no word of correctness
 
@@ -68,69 +113,52 @@ Firm =
 
 -- ---- a correct process can always go on
 
--- a process from 1 to n that is correct up to here, and where it stands
-pub record Follows (config : Config) (calls : List Call) (process : ℕ) (watch : Watch) : Type 0 where
-  pub some : 1 ≤ process
-  pub few : process ≤ config .n
-  pub stands : judged config calls process ≡ right watch
-
--- the state to which the reply to a due call is handed
-abbrev pub stateOf : Config → ℕ → Standing → Call → Process
-stateOf config process idle call = startedBy config process (call .entry) .process
-stateOf config process (busy state next) call = state
-stateOf config process (stuck state) call = state
-
 -- the space's reply to a correct process's own call fits
 abbrev pub Fitting : Type 0
 Fitting =
-    (config : Config) (calls : List Call) (process : ℕ) (watch : Watch) (call : Call)
+    (config : Config) (calls : List Call) (process : ℕ) (call : Call)
     → SoundConfig config
-    → Follows config calls process watch
-    → due config process (watch .taken) (watch .standing) call ≡ true
-    → fits (stateOf config process (watch .standing) call) (applied (last config calls) call .reply) ≡ true
+    → (c : Correct config calls process)
+    → due config process (c .watch .entered) (c .watch .standing) call ≡ true
+    → fits (stateOf config process (c .watch .standing) call) (applied (last config calls) call .reply) ≡ true
 
 -- so its state never refuses a reply
 abbrev pub NeverStuck : Type 0
 NeverStuck =
-    (config : Config) (calls : List Call) (process : ℕ) (watch : Watch) (state : Process)
+    (config : Config) (calls : List Call) (process : ℕ) (state : Process)
     → SoundConfig config
-    → Follows config calls process watch
-    → watch .standing ≡ stuck state
+    → (c : Correct config calls process)
+    → c .watch .standing ≡ stuck state
     → ⊥
 
--- while it has no decision of a round that it has taken, a call of that round is due
+-- while it has no decision of a round that it has begun, a call of that round is due
 abbrev pub Waiting : Type 0
 Waiting =
-    (config : Config) (calls : List Call) (process : ℕ) (watch : Watch) (round : ℕ)
+    (config : Config) (calls : List Call) (process round : ℕ)
     → SoundConfig config
-    → Follows config calls process watch
-    → listed round (watch .taken) ≡ true
-    → ((offset : Offset) → List·Memᴰ (record { round = round; offset = offset }) (watch .decisions) → ⊥)
-    → (state : Process) × (call : Call) × (watch .standing ≡ busy state call) × (state .round ≡ round)
+    → (c : Correct config calls process)
+    → listed round (c .watch .entered) ≡ true
+    → ((offset : Offset) → HasDecided config calls process (record { round = round; offset = offset }) → ⊥)
+    → (state : Process) × (call : Call) × (c .watch .standing ≡ busy state call) × (state .round ≡ round)
 
 -- it may make the call that is due, which bears its number: in a round the call that its state gave, between rounds the out that `started` gives
--- for any round not taken. A call under its number leaves the others what they were
+-- for any round not begun. A call under its number leaves the others what they were
 pub record GoesOn (config : Config) (calls : List Call) (process : ℕ) (watch : Watch) : Type 0 where
-  pub within : (state : Process) (call : Call) → watch .standing ≡ busy state call
-      → (call .process ≡ process) × (correct config (calls ++ (call ∷ [])) process ≡ true)
-  pub between : (round : ℕ) (offset : Offset) → watch .standing ≡ idle → listed round (watch .taken) ≡ false → started config process round offset .next ≡ Calls
+  pub within : (state : Process) (call : Call) → watch .standing ≡ busy state call → (call .process ≡ process) × Correct config (calls ++ (call ∷ [])) process
+  pub between : (round : ℕ) (offset : Offset) → watch .standing ≡ idle → listed round (watch .entered) ≡ false → started config process round offset .next ≡ Calls
       → (started config process round offset .call .process ≡ process)
-      × (correct config (calls ++ (started config process round offset .call ∷ [])) process ≡ true)
+      × Correct config (calls ++ (started config process round offset .call ∷ [])) process
   pub others : (call : Call) (other : ℕ) → call .process ≡ process → (other ≡ process → ⊥)
-      → correct config (calls ++ (call ∷ [])) other ≡ correct config calls other
+      → monitored config (calls ++ (call ∷ [])) other ≡ monitored config calls other
 
 abbrev pub GoingOn : Type 0
-GoingOn =
-    (config : Config) (calls : List Call) (process : ℕ) (watch : Watch)
-    → SoundConfig config
-    → Follows config calls process watch
-    → GoesOn config calls process watch
+GoingOn = (config : Config) (calls : List Call) (process : ℕ) → SoundConfig config → (c : Correct config calls process) → GoesOn config calls process (c .watch)
 
 -- ---- and there are runs in which all decide
 
 pub record AllDecide (config : Config) : Type 0 where
   pub calls : List Call
-  pub all : (process : ℕ) → 1 ≤ process → process ≤ config .n → Correct config calls process × ((offset : Offset) × HasDecided config calls process 0 offset)
+  pub all : (process : ℕ) → 1 ≤ process → process ≤ config .n → (offset : Offset) × HasDecided config calls process (record { round = 0; offset = offset })
 
 abbrev pub Inhabited : Type 0
 Inhabited = (config : Config) → SoundConfig config → AllDecide config

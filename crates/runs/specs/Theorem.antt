@@ -1,16 +1,15 @@
 -- Demand 3: one claim over every list of calls from a fresh space under policy 2.
 use mathlib.Core.Path.{_≡_}
-use mathlib.Core.Bool.{true}
+use mathlib.Core.Bool.{true, not}
 use mathlib.Core.List.{List, _∷_, _++_}
 use mathlib.Core.Logic.{_↔_}
 use Prim.Native.Nat.{ℕ, _+_, _-_, _*_, _≤_}
-use Rattle.runs.specs.Correct.{Decision, correct, amount, faulty}
-use Rattle.runs.specs.Decisions.{DoneProposal, hasDoneProposal, GivenOut, HasDecided, callsOf}
+use Rattle.runs.specs.Correct.{Correct, correct, amount}
+use Rattle.runs.specs.Decisions.{Decision, DoneProposal, hasDoneProposal, GivenOut, HasDecided, callsOf}
 use Rattle.space.specs.declared.config.Config.{Config}
 use Rattle.space.specs.declared.space.Space.{Space}
-use Rattle.space.specs.Configs.{processes}
-use Rattle.space.specs.RunLaws.{last}
-use Rattle.space.specs.Turns.{Turn, applied, turnsFrom, turns}
+use Rattle.space.specs.Bounds.{processes}
+use Rattle.calls.specs.Turns.{last, Turn, applied, turnsFrom, turns}
 use Rattle.tuple.specs.declared.field.Call.{Call}
 use Rattle.tuple.specs.declared.offset.Offset.{Offset}
 use Rattle.tuple.specs.declared.offset.Offset.the-variants.{Bottom}
@@ -22,17 +21,11 @@ pub record SoundConfig (config : Config) : Type 0 where
   pub some : 1 ≤ config .n
   pub most : config .n ≤ processes
   pub enough : 3 * config .t + 1 ≤ config .n
-  pub default : config .policy ≡ 2
+  pub policy : config .policy ≡ 2
 
--- at most t of the processes 1 to n are not correct
+-- of the processes 1 to n at most t are faulty, that is, not correct
 abbrev pub FewFaulty : Config → List Call → Type 0
-FewFaulty config calls = faulty config calls ≤ config .t
-
--- a process from 1 to n that is correct
-pub record Correct (config : Config) (calls : List Call) (process : ℕ) : Type 0 where
-  pub some : 1 ≤ process
-  pub few : process ≤ config .n
-  pub follows : correct config calls process ≡ true
+FewFaulty config calls = amount (λ process. not (correct config calls process)) (config .n) 1 ≤ config .t
 
 -- ---- the claim
 
@@ -60,7 +53,8 @@ pub record Run (config : Config) (calls : List Call) : Type 0 where
       → (own : Offset) → DoneProposal (turns config before) round process own
       → config .n - config .t ≤ amount (hasDoneProposal (λ code. true) (turns config before) round) (config .n) 1
       → config .n + 1 ≤ callsOf process within
-      → (offset : Offset) × HasDecided config (before ++ within) process round offset × GivenOut config calls (record { round = round; offset = offset })
+      → (offset : Offset) × HasDecided config (before ++ within) process (record { round = round; offset = offset })
+      × GivenOut config calls (record { round = round; offset = offset })
 
 abbrev pub RunTheorem : Type 0
 RunTheorem = (config : Config) (calls : List Call) → SoundConfig config → Run config calls

@@ -6,116 +6,55 @@ use mathlib.Core.Bool.{Bool, true, false, cond, and-eq-true-iff, false≢true}
 use mathlib.Core.List.{List, [], _∷_}
 use lib.ListN.{length, take, getD, length-append, length-take}
 use lib.Dec.{ltb, eqb}
-use lib.IntN.{pos, negsuc}
 use borrow.Author.Tests.{le-leb, eqb-true, eqb-false}
 use borrow.Table.Steps.{cases}
-use Rattle.script.specs.Digits.{decimal}
-use Rattle.script.specs.Texts.{spaced, offsetText, valueText, letterText, fieldText, fieldsText, tupleText, refusalText, outcomeText, replyText, replyLine, refusedLine, unreadLine, heldLine}
-use Rattle.script.proofs.DigitLaws.{decimal-most}
-use Rattle.script.proofs.TextLaws.{reply-length, refused-length, unread-length, held-length}
+use Rattle.script.specs.Texts.{configLine, unreadLine, heldLine}
+use Rattle.calls.specs.declared.effect.Effect.{Effect}
+use Rattle.calls.specs.declared.turn.Applied.{Applied}
+use Rattle.calls.specs.Effects.{appends, rdpEffect, inpEffect, casEffect, effect}
+use Rattle.calls.specs.Turns.{applied}
+use Rattle.calls.proofs.CallSteps.{Steps, steps}
 use Rattle.record.specs.Heads.{headNumber}
-use Rattle.record.specs.Laws.{Typed, Read}
-use Rattle.record.specs.Writing.{fieldsBytes, partBytes, callBytes}
+use Rattle.record.specs.Writing.{Typed, fieldsBytes, partBytes, callBytes}
+use Rattle.record.specs.Laws.{Read}
 use Rattle.record.proofs.NumberLaws.{kind-most}
 use Rattle.record.proofs.WrittenLaws.{call-length, tuple-length, head-room}
-use Rattle.space.specs.declared.space.Applied.{Applied}
+use Rattle.space.specs.declared.config.Config.{Config}
 use Rattle.space.specs.declared.space.Space.{Space}
-use Rattle.space.specs.Calls.{Effect, inserted, rdpEffect, inpEffect, casEffect, effect}
-use Rattle.space.specs.Laws.{Entries}
-use Rattle.space.specs.Spaces.{held, wellFormed}
-use Rattle.space.specs.Turns.{applied}
-use Rattle.space.proofs.CallSteps.{Steps, steps}
-use Rattle.space.proofs.Keys.{stands}
-use Rattle.space.proofs.SpaceRules.{held-lawful}
+use Rattle.space.specs.Spaces.{Entries, held, wellFormed}
+use Rattle.space.proofs.SpaceRules.{stands, held-lawful}
+use Rattle.text.specs.Texts.{fieldsText, tupleText, outcomeText, replyText, replyLine}
+use Rattle.text.proofs.DigitLaws.{decimal-most}
+use Rattle.text.proofs.LengthLaws.{spaced-most, field-most, refusal-most, reply-length, refused-most}
 use Rattle.tuple.specs.declared.fault.Fault.the-variants.{Absent}
 use Rattle.tuple.specs.declared.field.Field.{Field}
 use Rattle.tuple.specs.declared.field.Tuple.{Tuple}
 use Rattle.tuple.specs.declared.field.Call.{Call}
 use Rattle.tuple.specs.declared.matching.Found.{Found}
 use Rattle.tuple.specs.declared.matching.Found.the-variants.{At, Nowhere}
-use Rattle.tuple.specs.declared.offset.Offset.{Offset}
-use Rattle.tuple.specs.declared.offset.Offset.the-variants.{Bottom, Hundredths}
 use Rattle.tuple.specs.declared.refusal.Refusal.{Refusal}
-use Rattle.tuple.specs.declared.refusal.Refusal.the-variants.{Unsound, Cut, Beyond, Unknown, Misshapen, Stranger, Denied, Full, LongScript, NoRoom, Unfit}
 use Rattle.tuple.specs.declared.reply.Outcome.{Outcome}
 use Rattle.tuple.specs.declared.reply.Outcome.the-variants as outcome
 use Rattle.tuple.specs.Faults.{isDefined, isAbsent, fieldsFault, tupleFault, partFault, usesTemplate, callFault, isEntry}
-use Rattle.tuple.specs.Fields.{word, count, offset, out, rdp, inp, cas, places, capacity, largestOf, blankTuple}
+use Rattle.tuple.specs.Fields.{out, rdp, inp, cas, largestOf, blankTuple}
+use Rattle.tuple.specs.Bounds.{places, capacity}
 use Rattle.tuple.specs.Matching.{matches, oldestOf}
-use Rattle.tuple.specs.Offsets.{codeOf, offsetOf}
-use Rattle.tuple.specs.Refusals.{numberOf, refusal}
+use Rattle.tuple.specs.Refusals.{refusal}
 use Rattle.tuple.proofs.MatchRules.{oldest-rule}
-use Rattle.tuple.proofs.OffsetLaws.{one-to-one}
-use Rattle.tuple.proofs.NoFault.{absent, SoundField, fields-sound, tuple-sound, call-sound}
+use Rattle.tuple.proofs.NoFault.{absent, fields-sound, tuple-sound, call-sound}
 use Rattle.varint.specs.Reading.{largest}
 use Rattle.varint.proofs.ReadingLaws.{picked}
 use Rattle.varint.proofs.WritingLaws.{width-least}
 
--- ---- numbers
-
--- a number that varint holds has ten digits at most
-ten-digits : (n : ℕ) → n ≤ largest → length (decimal n) ≤ 10
-ten-digits n h = decimal-most 9 n (omega arith)
-
-spaced-most : (n : ℕ) → n ≤ largest → length (spaced n) ≤ 11
-unfolding spaced
-spaced-most n h = omega (arith, ten-digits n h)
-
-pub two-digits : (n : ℕ) → n < 100 → length (spaced n) ≤ 3
-unfolding spaced
-two-digits n h = omega (arith, decimal-most 1 n (omega arith))
-
-number-most : (why : Refusal) → numberOf why ≤ 11
-number-most Unsound = omega arith
-number-most Cut = omega arith
-number-most Beyond = omega arith
-number-most Unknown = omega arith
-number-most Misshapen = omega arith
-number-most Stranger = omega arith
-number-most Denied = omega arith
-number-most Full = omega arith
-number-most LongScript = omega arith
-number-most NoRoom = omega arith
-number-most Unfit = omega arith
-
-refusal-most : (why : Refusal) → length (refusalText why) ≤ 10
-unfolding refusalText
-refusal-most why = omega (arith, two-digits (numberOf why) (omega (arith, number-most why)))
-
 -- ---- fields
-
--- an offset's digits are those of half of its code
-offset-most : (o : Offset) → codeOf o ≤ largest → length (offsetText o) ≤ 11
-offset-most Bottom h = omega arith
-offset-most (Hundredths (pos z)) h = omega (arith, ten-digits z (omega arith))
-offset-most (Hundredths (negsuc k)) h = omega (arith, ten-digits (k + 1) (omega arith))
-
-value-most : (kind value : ℕ) → value ≤ largest → length (valueText kind value) ≤ 11
-unfolding valueText
-value-most kind value h =
-    picked (λ (l : List ℕ). length l ≤ 11) (eqb kind offset)
-    (λ e. offset-most (offsetOf value) (omega (arith, one-to-one .forth value)))
-    (λ e. omega (arith, ten-digits value h))
-
-letter-two : (kind : ℕ) → length (letterText kind) ≤ 2
-unfolding letterText
-letter-two kind =
-    picked Two (eqb kind word) (λ e. omega arith) (λ e. picked Two (eqb kind count) (λ e. omega arith) (λ e. picked Two (eqb kind offset) (λ e. omega arith) (λ e. omega arith)))
-  where
-    Two : List ℕ → Type 0
-    Two l = length l ≤ 2
-
-field-most : (field : Field) → SoundField true field → length (fieldText field) ≤ 13
-unfolding fieldText
-field-most field sound =
-    let small : field .value ≤ largestOf (field .kind) = cases (isDefined field) (sound .small) (λ d. absurd (false≢true (sym (sound .shaped d)))) in
-    simp length-append (omega (arith, letter-two (field .kind), value-most (field .kind) (field .value) (omega (arith, kind-most (field .kind)))))
 
 fields-most : (fields : List Field) → fieldsFault true fields ≡ Absent → length (fieldsText fields) ≤ 13 * length fields
 unfolding fieldsText
 fields-most [] h = omega arith
 fields-most (field ∷ fields) h =
-    let sound = fields-sound true field fields h in simp length-append (omega (arith, field-most field (sound .0), fields-most fields (sound .1)))
+    let sound = fields-sound true field fields h in
+    let few : field .value ≤ largestOf (field .kind) = cases (isDefined field) (sound .0 .small) (λ d. absurd (false≢true (sym (sound .0 .shaped d)))) in
+    simp length-append (omega (arith, field-most field (omega (arith, kind-most (field .kind))), fields-most fields (sound .1)))
 
 tuple-most : (tuple : Tuple) → isEntry tuple ≡ true → length (tupleText tuple) ≤ 13 * tuple .count
 unfolding isEntry tupleText
@@ -166,12 +105,12 @@ module _ (tuples : List Tuple) (call : Call) (entries : Entries tuples) where
 
   -- what an answer's text has at most
   Short : Effect → Type 0
-  Short done = length (outcomeText (done .outcome) (done .tuple)) ≤ 11 + 13 * asked call
+  Short done = length (replyText (done .reply)) ≤ 11 + 13 * asked call
 
-  insert-short : (how : Outcome) → length (outcomeText how blankTuple) ≤ 11 → Short (inserted how tuples (call .entry))
+  append-short : (how : Outcome) → length (outcomeText how blankTuple) ≤ 11 → Short (appends how (length tuples))
   unfolding Short outcomeText
-  insert-short how short =
-      picked (λ (done : Effect). length (outcomeText (done .outcome) (done .tuple)) ≤ 11 + 13 * asked call) (ltb (length tuples) capacity)
+  append-short how short =
+      picked (λ (done : Effect). length (replyText (done .reply)) ≤ 11 + 13 * asked call) (ltb (length tuples) capacity)
       (λ e. omega arith)
       (λ e. omega (arith, refusal-most (refusal 8)))
 
@@ -189,17 +128,17 @@ module _ (tuples : List Tuple) (call : Call) (entries : Entries tuples) where
   inp-short uses (At i) e = omega (arith, asks uses, found-most i e)
   inp-short uses Nowhere e = omega arith
 
-  cas-short : usesTemplate (call .code) ≡ true → (found : Found) → oldestOf tuples (call .template) ≡ found → Short (casEffect tuples (call .entry) found)
+  cas-short : usesTemplate (call .code) ≡ true → (found : Found) → oldestOf tuples (call .template) ≡ found → Short (casEffect tuples found)
   unfolding Short outcomeText
   cas-short uses (At i) e = omega (arith, asks uses, found-most i e)
-  cas-short uses Nowhere e = insert-short outcome.Inserted (omega arith)
+  cas-short uses Nowhere e = append-short outcome.Inserted (omega arith)
 
   effect-short : callFault call ≡ Absent → Short (effect tuples call)
   unfolding effect usesTemplate outcomeText
   effect-short sound =
       let found = oldestOf tuples (call .template) in
       let known = call-sound call sound in
-      cases (eqb (call .code) out) (λ a. rw a (insert-short outcome.Done (omega arith)))
+      cases (eqb (call .code) out) (λ a. rw a (append-short outcome.Done (omega arith)))
       (λ a. let more : usesTemplate (call .code) ≡ true = rw (le-leb rdp (call .code) (omega (arith, known .low, eqb-false (call .code) out a)), le-leb (call .code) cas (known .high)) in
       cases (eqb (call .code) rdp) (λ b. rw (a, b) (rdp-short more found refl))
       (λ b. cases (eqb (call .code) inp) (λ c. rw (a, b, c) (inp-short more found refl)) (λ c. rw (a, b, c) (cas-short more found refl))))
@@ -213,8 +152,10 @@ module _ (space : Space) (call : Call) where
 
 -- ---- lines
 
-pub refused-most : (why : Refusal) → length (refusedLine why) ≤ 11
-refused-most why = omega (arith, refused-length why, refusal-most why)
+pub config-most : (config : Config) → config .n < 100 → config .t < 100 → config .policy < 100 → length (configLine config) ≤ 15
+unfolding configLine
+config-most config n t policy =
+    simp length-append (omega (arith, spaced-most 1 (config .n) n, spaced-most 1 (config .t) t, spaced-most 1 (config .policy) policy))
 
 pub line-most : {s : List ℕ} {at next : ℕ} {call : Call} (number : ℕ) (space : Space) → Read s at next call → number ≤ largest
     → at + length (replyLine number (applied space call .reply)) ≤ at + 16 * (next - at)
@@ -223,13 +164,15 @@ line-most {call = call} number space read few =
       arith,
       read .taken,
       reply-length number (applied space call .reply),
-      ten-digits number few,
+      decimal-most 9 number (omega arith),
       steps-short space call (steps space call),
       call-least call (read .typed) (read .sound),
     )
 
 pub unread-most : (number : ℕ) (why : Refusal) → number ≤ largest → length (unreadLine number why) ≤ 22
-unread-most number why few = omega (arith, unread-length number why, ten-digits number few, refused-most why)
+unfolding unreadLine
+unread-most number why few = simp length-append (omega (arith, decimal-most 9 number (omega arith), refused-most why))
 
 pub held-most : (space : Space) → wellFormed space ≡ true → length (heldLine space) ≤ 18
-held-most space formed = omega (arith, held-length space, spaced-most (length (held space)) (omega (arith, held-lawful space formed .few)))
+unfolding heldLine
+held-most space formed = simp length-append (omega (arith, spaced-most 2 (length (held space)) (omega (arith, held-lawful space formed .few))))

@@ -1,4 +1,3 @@
-mod DigitLaws
 pub mod FeedLaws
 mod LengthLaws
 mod LineLaws
@@ -6,6 +5,4 @@ mod RecordLaws
 pub mod RoomLaws
 pub mod RunLaws
 mod ScriptLaws
-pub mod SignLaws
-mod Stores
-mod TextLaws
+pub mod StepLaws

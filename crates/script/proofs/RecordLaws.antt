@@ -9,7 +9,8 @@ use borrow.Author.Tests.{lt-ltb, le-ltb, ltb-true, ltb-false}
 use borrow.Table.Steps.{cases}
 use Rattle.script.specs.Printing.{linesFrom, linesOn}
 use Rattle.script.specs.Scripts.{Records, ended, prepend, stopped, recordStep, recordsFrom, recordsAt}
-use Rattle.script.specs.Texts.{replyLine, unreadLine, heldLine}
+use Rattle.script.specs.Texts.{unreadLine, heldLine}
+use Rattle.calls.specs.Turns.{lastOf, applied, turnsFrom}
 use Rattle.record.specs.declared.reader.Cursor.{Cursor}
 use Rattle.record.specs.declared.reader.Next.{Next}
 use Rattle.record.specs.declared.reader.Next.the-variants.{At, Refused}
@@ -21,12 +22,11 @@ use Rattle.record.proofs.OnlyForm.{only-form}
 use Rattle.record.proofs.Steps.{goes-on, stops}
 use Rattle.record.proofs.WrittenLaws.{call-length}
 use Rattle.space.specs.declared.space.Space.{Space}
-use Rattle.space.specs.RunLaws.{lastOf}
-use Rattle.space.specs.Turns.{applied, turnsFrom}
+use Rattle.text.specs.Texts.{replyLine}
 use Rattle.tuple.specs.declared.fault.Fault.the-variants.{Absent, Present}
 use Rattle.tuple.specs.declared.field.Call.{Call}
 use Rattle.tuple.specs.declared.refusal.Refusal.{Refusal}
-use Rattle.varint.specs.Laws.{Bytes}
+use Rattle.varint.specs.Reading.{Bytes}
 use Rattle.varint.proofs.WritingLaws.{width-least}
 
 pub bytes-of : (s : List ℕ) → ((i : ℕ) → getD s i 0 < 256) → Bytes s

@@ -13,11 +13,12 @@ use Rattle.script.specs.declared.run.Printed.the-variants.{Length, Unpri
 use Rattle.script.specs.Laws.{TextMost, AlwaysRoom}
 use Rattle.script.specs.Printing.{linesOn, printed, opened, text, textBytes, printedOf, leftOf}
 use Rattle.script.specs.Scripts.{scriptBytes, recordsAt, configStep, configOf, ran}
-use Rattle.script.specs.Texts.{configLine, replyLine, unreadLine, heldLine}
-use Rattle.script.proofs.LengthLaws.{two-digits, refused-most, line-most, unread-most, held-most}
+use Rattle.script.specs.Texts.{configLine, unreadLine, heldLine}
+use Rattle.script.proofs.LengthLaws.{config-most, line-most, unread-most, held-most}
 use Rattle.script.proofs.RecordLaws.{call-read, read-inside, records-end, records-on, records-stop, lines-on, lines-stop, lines-end}
-use Rattle.script.proofs.ScriptLaws.{fresh-sound, fresh-formed, opened-stands, opened-refused}
-use Rattle.script.proofs.TextLaws.{config-length}
+use Rattle.script.proofs.ScriptLaws.{fresh-sound, opened-stands, opened-refused}
+use Rattle.calls.specs.Turns.{applied}
+use Rattle.calls.proofs.RunSteps.{Run, next, run-formed, fresh-run}
 use Rattle.record.specs.declared.reader.Next.{Next}
 use Rattle.record.specs.declared.reader.Next.the-variants.{At, Refused}
 use Rattle.record.specs.Reading.{callAt}
@@ -25,29 +26,29 @@ use Rattle.space.specs.declared.config.Config.{Config}
 use Rattle.space.specs.declared.space.Opening.{Opening}
 use Rattle.space.specs.declared.space.Opening.the-variants.{Stands, Unopened}
 use Rattle.space.specs.declared.space.Space.{Space}
-use Rattle.space.specs.Spaces.{wellFormed, freshOf}
-use Rattle.space.specs.Turns.{applied}
-use Rattle.space.proofs.CallLaws.{kept}
+use Rattle.space.specs.Configs.{sound}
+use Rattle.space.specs.Spaces.{freshOf}
 use Rattle.space.proofs.ConfigLaws.{sound-rule}
+use Rattle.text.specs.Texts.{replyLine}
+use Rattle.text.proofs.LengthLaws.{refused-most}
 use Rattle.tuple.specs.Refusals.{refusal}
-use Rattle.varint.specs.Laws.{Bytes}
-use Rattle.varint.specs.Reading.{largest}
+use Rattle.varint.specs.Reading.{Bytes, largest}
 
 -- ---- the records
 
-module _ (s : List ℕ) (bytes : Bytes s) where
+module _ (s : List ℕ) (bytes : Bytes s) (config : Config) (safe : sound config ≡ true) where
   abbrev Few : ℕ → ℕ → Space → Type 0
   Few at number space = length (linesOn number space (recordsAt s at)) ≤ 16 * (length s - at) + 40
 
-  end-few : (at number : ℕ) (space : Space) → wellFormed space ≡ true → length s ≤ at → Few at number space
-  end-few at number space formed end =
-      omega (arith, ap (λ r. length (linesOn number space r)) (records-end s at end), ap length (lines-end number space), held-most space formed)
+  end-few : (at number : ℕ) (space : Space) → Run config space → length s ≤ at → Few at number space
+  end-few at number space run end =
+      omega (arith, ap (λ r. length (linesOn number space r)) (records-end s at end), ap length (lines-end number space), held-most space (run-formed safe run))
 
   -- one record, if those behind it keep to the bound
-  inside-few : (at number : ℕ) (space : Space) → wellFormed space ≡ true → number + length s ≤ at + largest → at < length s
-      → ((next : ℕ) (after : Space) → wellFormed after ≡ true → at + 2 ≤ next → Few next (number + 1) after)
+  inside-few : (at number : ℕ) (space : Space) → Run config space → number + length s ≤ at + largest → at < length s
+      → ((next : ℕ) (after : Space) → Run config after → at + 2 ≤ next → Few next (number + 1) after)
       → (next : Next) → callAt s at .next ≡ next → Few at number space
-  inside-few at number space formed few here more (At cursor) e =
+  inside-few at number space run few here more (At cursor) e =
       let call = callAt s at .call in
       let read = call-read s at (callAt s at) cursor bytes refl e in
       let taken = read-inside here read in
@@ -57,25 +58,25 @@ module _ (s : List ℕ) (bytes : Bytes s) where
         ap length (lines-on number space call (recordsAt s (cursor .at))),
         length-append (replyLine number (applied space call .reply)) (linesOn (number + 1) (applied space call .space) (recordsAt s (cursor .at))),
         line-most number space read (omega arith),
-        more (cursor .at) (applied space call .space) (kept space call formed) (taken .0),
+        more (cursor .at) (applied space call .space) (next {call = call} run .run) (taken .0),
       )
-  inside-few at number space formed few here more (Refused why) e =
+  inside-few at number space run few here more (Refused why) e =
       omega (
         arith,
         ap (λ r. length (linesOn number space r)) (records-stop s at here (callAt s at) refl why e),
         ap length (lines-stop number space why),
         length-append (unreadLine number why) (heldLine space),
         unread-most number why (omega arith),
-        held-most space formed,
+        held-most space (run-formed safe run),
       )
 
-  lines-few : (left at number : ℕ) (space : Space) → wellFormed space ≡ true → length s ≤ at + left → number + length s ≤ at + largest → Few at number space
-  lines-few zero at number space formed enough few = end-few at number space formed (omega arith)
-  lines-few (suc left) at number space formed enough few =
+  lines-few : (left at number : ℕ) (space : Space) → Run config space → length s ≤ at + left → number + length s ≤ at + largest → Few at number space
+  lines-few zero at number space run enough few = end-few at number space run (omega arith)
+  lines-few (suc left) at number space run enough few =
       cases (ltb at (length s))
-      (λ e. inside-few at number space formed few (ltb-true at (length s) e)
-      (λ next after well behind. lines-few left next (number + 1) after well (omega arith) (omega arith)) (callAt s at .next) refl)
-      (λ e. end-few at number space formed (ltb-false at (length s) e))
+      (λ e. inside-few at number space run few (ltb-true at (length s) e)
+      (λ next after left-run behind. lines-few left next (number + 1) after left-run (omega arith) (omega arith)) (callAt s at .next) refl)
+      (λ e. end-few at number space run (ltb-false at (length s) e))
 
 -- ---- the whole
 
@@ -90,25 +91,22 @@ opened-most config s at bytes short = by-opening (freshOf config .opening) refl
           arith,
           ap length (opened-stands config s at good),
           length-append (configLine config) (linesOn 1 (freshOf config .space) (recordsAt s at)),
-          config-length config,
-          two-digits (config .n) (omega arith),
-          two-digits (config .t) (omega arith),
-          two-digits (config .policy) (omega arith),
-          lines-few s bytes (length s) at 1 (freshOf config .space) (fresh-formed config good) (omega arith) (omega arith),
+          config-most config (omega arith) (omega arith) (omega arith),
+          lines-few s bytes config good (length s) at 1 (freshOf config .space) (fresh-run config good) (omega arith) (omega arith),
         )
     by-opening (Unopened why) e = omega (arith, ap length (opened-refused config s at why e), refused-most why)
 
 -- what was read of the set-up
-config-most : (s : List ℕ) → Bytes s → length s ≤ scriptBytes → (config : Config) (next : Next) → length (printed (configStep s config next)) ≤ 16 * length s + 64
+setup-most : (s : List ℕ) → Bytes s → length s ≤ scriptBytes → (config : Config) (next : Next) → length (printed (configStep s config next)) ≤ 16 * length s + 64
 unfolding printed opened
-config-most s bytes short config (At cursor) = opened-most config s (cursor .at) bytes short
-config-most s bytes short config (Refused why) = omega (arith, refused-most why)
+setup-most s bytes short config (At cursor) = opened-most config s (cursor .at) bytes short
+setup-most s bytes short config (Refused why) = omega (arith, refused-most why)
 
 pub text-most : TextMost
 unfolding text ran printed
 text-most s bytes =
     cases (leb (length s) scriptBytes)
-    (λ e. rw e (config-most s bytes (leb-true (length s) scriptBytes e) (configOf s .config) (configOf s .next)))
+    (λ e. rw e (setup-most s bytes (leb-true (length s) scriptBytes e) (configOf s .config) (configOf s .next)))
     (λ e. rw e (omega (arith, refused-most (refusal 9))))
 
 -- above the most bytes of a script the text is one line

@@ -7,10 +7,12 @@ use lib.ListN.{length, drop}
 use lib.Dec.{leb, ltb}
 use borrow.Author.Tests.{ltb-true, ltb-false}
 use borrow.Table.Steps.{cases}
-use Rattle.script.specs.Laws.{recordsBytes, Whole, EveryRecord, RunRule, RunRules}
-use Rattle.script.specs.Scripts.{scriptBytes, Records, Unopened, Opened, recordsAt, ranOn, openStep, configStep, configOf, ran}
+use Rattle.script.specs.Laws.{Whole, EveryRecord, RunRule, RunRules}
+use Rattle.script.specs.Scripts.{scriptBytes, Records, Unopened, Opened, recordsAt, recordsBytes, ranOn, openStep, configStep, configOf, ran}
 use Rattle.script.proofs.RecordLaws.{call-read, read-inside, records-end, records-on, records-stop}
 use Rattle.script.proofs.ScriptLaws.{fresh-sound}
+use Rattle.calls.specs.Turns.{Turn, turns}
+use Rattle.calls.proofs.RunSteps.{fresh-space}
 use Rattle.record.specs.declared.reader.Next.{Next}
 use Rattle.record.specs.declared.reader.Next.the-variants.{At, Refused}
 use Rattle.record.specs.Reading.{callAt}
@@ -20,11 +22,9 @@ use Rattle.space.specs.declared.space.Opening.{Opening}
 use Rattle.space.specs.declared.space.Opening.the-variants as opening
 use Rattle.space.specs.declared.space.Space.{Space}
 use Rattle.space.specs.Spaces.{freshOf}
-use Rattle.space.specs.Turns.{Turn, turns}
-use Rattle.space.proofs.RunSteps.{fresh-space}
 use Rattle.tuple.specs.declared.fault.Fault.{Fault}
 use Rattle.tuple.specs.Refusals.{refusal}
-use Rattle.varint.specs.Laws.{Bytes}
+use Rattle.varint.specs.Reading.{Bytes}
 
 -- ---- every record
 

@@ -3,14 +3,15 @@ use mathlib.Core.Path.{_≡_, sym, ap, _∙_}
 use Prim.Native.Nat.{ℕ, _≤_, _<_}
 use native.Mathlib.Omega.{arith}
 use mathlib.Core.Bool.{true, cond}
-use mathlib.Core.List.{List, [], _++_}
+use mathlib.Core.List.{List, _++_}
 use lib.ListN.{length}
 use borrow.Author.Tests.{le-leb, lt-leb}
 use borrow.Table.Steps.{cases}
 use Rattle.script.specs.declared.setup.ReadConfig.{ReadConfig}
 use Rattle.script.specs.Printing.{linesOn, printed, opened, text}
 use Rattle.script.specs.Scripts.{scriptBytes, Ran, recordsAt, ranOn, openStep, configStep, configOf, ran}
-use Rattle.script.specs.Texts.{configLine, refusedLine}
+use Rattle.script.specs.Texts.{configLine}
+use Rattle.calls.proofs.RunSteps.{run-formed, fresh-run}
 use Rattle.record.specs.declared.reader.Cursor.{Cursor}
 use Rattle.record.specs.declared.reader.Next.{Next}
 use Rattle.record.specs.declared.reader.Next.the-variants.{At, Refused}
@@ -19,8 +20,7 @@ use Rattle.space.specs.declared.space.Opening.{Opening}
 use Rattle.space.specs.declared.space.Opening.the-variants.{Stands, Unopened}
 use Rattle.space.specs.Configs.{sound}
 use Rattle.space.specs.Spaces.{wellFormed, freshOf}
-use Rattle.space.proofs.RunSteps.{fresh-space, none-lawful}
-use Rattle.space.proofs.SpaceRules.{formed-of}
+use Rattle.text.specs.Texts.{refusedLine}
 use Rattle.tuple.specs.declared.refusal.Refusal.{Refusal}
 use Rattle.tuple.specs.Refusals.{refusal}
 
@@ -31,7 +31,7 @@ unfolding freshOf
 fresh-sound config e = cases (sound config) (λ s. s) (λ s. let z : _≡_ {A = ℕ} 0 1 = cc (rw s at e) in absurd (omega arith))
 
 pub fresh-formed : (config : Config) → sound config ≡ true → wellFormed (freshOf config .space) ≡ true
-fresh-formed config s = rw (fresh-space config s) (formed-of config [] s none-lawful)
+fresh-formed config s = run-formed s (fresh-run config s)
 
 -- a script whose set-up was read: a space stands, or it is refused
 pub opened-stands : (config : Config) (s : List ℕ) (at : ℕ) → sound config ≡ true

@@ -1,29 +1,32 @@
 -- The laws of scripts and their texts, as claims over the definitions.
 use mathlib.Core.Path.{_≡_}
-use mathlib.Core.Bool.{true, cond}
+use mathlib.Core.Bool.{true}
 use mathlib.Core.List.{List, [], _∷_, _++_}
 use Prim.Native.Nat.{ℕ, _+_, _*_, _≤_, _<_}
 use lib.ListN.{length, drop}
-use lib.Dec.{eqb}
 use Rattle.script.specs.declared.run.Printed.the-variants.{Length}
-use Rattle.script.specs.Digits.{decimal}
+use Rattle.script.specs.declared.steps.Stepped.{Stepped}
+use Rattle.script.specs.Lines.{numbered, unread}
 use Rattle.script.specs.Printing.{text, textBytes, printedOf}
-use Rattle.script.specs.Scripts.{Records, Opened, configOf, recordsAt, ran}
-use Rattle.script.specs.Texts.{gap, boardText, tuplesText, spaced, offsetText, refusalText, replyText}
-use Rattle.record.specs.declared.reader.Next.the-variants.{Refused}
-use Rattle.record.specs.Reading.{place, callAt}
-use Rattle.record.specs.Writing.{callBytes}
+use Rattle.script.specs.Scripts.{Records, Opened, Stops, configOf, ended, prepend, recordsAt, recordsBytes, ran}
+use Rattle.script.specs.Steps.{stepAt}
+use Rattle.script.specs.Texts.{boardText, tuplesText}
+use Rattle.calls.specs.Effects.{refuses}
+use Rattle.calls.specs.Turns.{carriedBy, applied, Turn, turns, last}
+use Rattle.record.specs.declared.reader.Cursor.{Cursor}
+use Rattle.record.specs.declared.reader.Next.the-variants.{At, Refused}
+use Rattle.record.specs.Reading.{place}
 use Rattle.space.specs.declared.config.Config.{Config}
 use Rattle.space.specs.declared.space.Space.{Space}
 use Rattle.space.specs.Configs.{sound}
-use Rattle.space.specs.RunLaws.{last}
-use Rattle.space.specs.Spaces.{held}
-use Rattle.space.specs.Turns.{Turn, turns}
+use Rattle.space.specs.Spaces.{held, wellFormed}
+use Rattle.text.specs.Lines.{linesOf}
+use Rattle.text.specs.Texts.{spaced}
 use Rattle.tuple.specs.declared.fault.Fault.{Fault}
-use Rattle.tuple.specs.declared.fault.Fault.the-variants.{Absent, Present}
+use Rattle.tuple.specs.declared.fault.Fault.the-variants.{Present}
 use Rattle.tuple.specs.declared.field.Call.{Call}
-use Rattle.tuple.specs.declared.offset.Offset.{Offset}
-use Rattle.varint.specs.Laws.{Bytes}
+use Rattle.tuple.specs.declared.refusal.Refusal.{Refusal}
+use Rattle.varint.specs.Reading.{Bytes}
 
 -- ---- how long a text is
 
@@ -35,23 +38,28 @@ TextMost = (s : List ℕ) → Bytes s → length (text s) ≤ 16 * length s + 64
 abbrev pub AlwaysRoom : Type 0
 AlwaysRoom = (s : List ℕ) (room : ℕ) → Bytes s → textBytes ≤ room → printedOf s room ≡ Length (length (text s))
 
--- ---- the sign of an offset
+-- ---- one record
 
--- two offsets have one text only if they are one: neither the sign nor the mark is lost
-abbrev pub OffsetTexts : Type 0
-OffsetTexts = (a b : Offset) → offsetText a ≡ offsetText b → a ≡ b
+-- a record that reads is the first of those left, and makes the turn of its call
+pub record Goes (s : List ℕ) (at : ℕ) (space : Space) (step : Stepped) (cursor : Cursor) : Type 0 where
+  pub first : recordsAt s at ≡ prepend (step .call) (recordsAt s (cursor .at))
+  pub further : at < cursor .at
+  pub turn : carriedBy space (step .call) (step .effect) ≡ applied space (step .call)
+
+-- one that can't be read ends them, and is answered with its refusal
+pub record Ends (s : List ℕ) (at : ℕ) (step : Stepped) (why : Refusal) : Type 0 where
+  pub last : recordsAt s at ≡ ended (Present why)
+  pub answer : step .effect ≡ refuses why
+
+pub record StepRule (s : List ℕ) (at : ℕ) (space : Space) (step : Stepped) : Type 0 where
+  pub goes : (cursor : Cursor) → step .next ≡ At cursor → Goes s at space step cursor
+  pub ends : (why : Refusal) → step .next ≡ Refused why → Ends s at step why
+
+-- on a well-formed space, before the end of the script
+abbrev pub StepRules : Type 0
+StepRules = (s : List ℕ) (at : ℕ) (space : Space) → Bytes s → at < length s → wellFormed space ≡ true → StepRule s at space (stepAt s at space)
 
 -- ---- none of the records is left out
-
--- the bytes of calls, one record behind the other
-unfoldable pub recordsBytes : List Call → List ℕ
-recordsBytes [] = []
-recordsBytes (call ∷ calls) = callBytes call ++ recordsBytes calls
-
--- reading ends at the script's end, or at a record that can't be read
-abbrev pub Stops : List ℕ → ℕ → Fault → Type 0
-Stops s end Absent = length s ≤ end
-Stops s end (Present why) = (end < length s) × (callAt s end .next ≡ Refused why)
 
 -- the bytes from the place `at` on are the records of the calls, in order, up to where reading ends
 pub record Whole (s : List ℕ) (at : ℕ) (records : Records) : Type 0 where
@@ -76,24 +84,6 @@ abbrev pub RunRules : Type 0
 RunRules = (s : List ℕ) (config : Config) (made : List Turn) (fault : Fault) (space : Space) → ran s ≡ Opened config made fault space → RunRule s config made fault space
 
 -- ---- the lines of a text
-
--- what stands before each line feed, behind the part of a line that was passed
-unfoldable pub cutFrom : List ℕ → List ℕ → List (List ℕ)
-cutFrom line [] = []
-cutFrom line (byte ∷ bytes) = cond (eqb byte 10) (line ∷ cutFrom [] bytes) (cutFrom (line ++ (byte ∷ [])) bytes)
-
-unfoldable pub linesOf : List ℕ → List (List ℕ)
-linesOf bytes = cutFrom [] bytes
-
--- a line for each turn: the record's number and the reply
-unfoldable pub numbered : ℕ → List Turn → List (List ℕ)
-numbered number [] = []
-numbered number (turn ∷ made) = (decimal number ++ replyText (turn .reply)) ∷ numbered (number + 1) made
-
--- behind them one for a record that can't be read, if there is one
-unfoldable pub unread : ℕ → Fault → List (List ℕ)
-unread number Absent = []
-unread number (Present why) = (decimal number ++ (gap ++ refusalText why)) ∷ []
 
 -- the text of a script that opens a space: its first line, then those of its turns in order, none left out, then the ending
 abbrev pub LineRule : Type 0

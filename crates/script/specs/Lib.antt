@@ -1,5 +1,6 @@
-pub mod Digits
 pub mod Laws
+pub mod Lines
 pub mod Printing
 pub mod Scripts
+pub mod Steps
 pub mod Texts

@@ -7,14 +7,14 @@ use lib.Dec.{leb}
 use Rattle.script.specs.declared.run.Printed.{Printed}
 use Rattle.script.specs.declared.run.Printed.the-variants.{Length, Unprinted}
 use Rattle.script.specs.Scripts.{scriptBytes, Records, Ran, Unopened, Opened, openStep, ran}
-use Rattle.script.specs.Texts.{configLine, replyLine, unreadLine, refusedLine, heldLine}
+use Rattle.script.specs.Texts.{configLine, unreadLine, heldLine}
+use Rattle.calls.specs.Turns.{lastOf, Turn, turnsFrom}
 use Rattle.record.specs.declared.reader.Next.{Next}
 use Rattle.record.specs.declared.reader.Next.the-variants.{At, Refused}
 use Rattle.space.specs.declared.config.Config.{Config}
 use Rattle.space.specs.declared.space.Space.{Space}
-use Rattle.space.specs.RunLaws.{lastOf}
 use Rattle.space.specs.Spaces.{freshOf}
-use Rattle.space.specs.Turns.{Turn, turnsFrom}
+use Rattle.text.specs.Texts.{replyLine, refusedLine}
 use Rattle.tuple.specs.declared.fault.Fault.{Fault}
 use Rattle.tuple.specs.declared.fault.Fault.the-variants.{Absent, Present}
 use Rattle.tuple.specs.Refusals.{refusal}

@@ -1,22 +1,24 @@
 -- Document 01, "A whole script": what a script's bytes do. Reading them depends on no space, so the calls are read first, and then made in turn.
-use Prim.Native.Nat.{ℕ, zero, suc}
+use mathlib.Core.Path.{_≡_}
+use Prim.Native.Nat.{ℕ, zero, suc, _≤_, _<_}
 use mathlib.Core.Bool.{cond}
-use mathlib.Core.List.{List, [], _∷_}
+use mathlib.Core.List.{List, [], _∷_, _++_}
 use lib.ListN.{length}
 use lib.Dec.{leb, ltb}
 use Rattle.script.specs.declared.setup.ReadConfig.{ReadConfig}
+use Rattle.calls.specs.Turns.{lastOf, Turn, turnsFrom}
 use Rattle.record.specs.declared.reader.Next.{Next}
 use Rattle.record.specs.declared.reader.Next.the-variants.{At, Refused}
 use Rattle.record.specs.declared.reader.ReadNumber.{ReadNumber}
 use Rattle.record.specs.declared.reader.ReadCall.{ReadCall}
 use Rattle.record.specs.Reading.{place, onward, readNumber, callAt}
+use Rattle.record.specs.Writing.{callBytes}
 use Rattle.space.specs.declared.config.Config.{Config}
 use Rattle.space.specs.declared.space.Opening.{Opening}
 use Rattle.space.specs.declared.space.Opening.the-variants as opening
 use Rattle.space.specs.declared.space.Space.{Space}
-use Rattle.space.specs.RunLaws.{lastOf}
-use Rattle.space.specs.Spaces.{blankConfig, freshOf}
-use Rattle.space.specs.Turns.{Turn, turnsFrom}
+use Rattle.space.specs.Configs.{blankConfig}
+use Rattle.space.specs.Spaces.{freshOf}
 use Rattle.tuple.specs.declared.fault.Fault.{Fault}
 use Rattle.tuple.specs.declared.fault.Fault.the-variants.{Absent, Present}
 use Rattle.tuple.specs.declared.field.Call.{Call}
@@ -72,6 +74,18 @@ recordsFrom (suc most) s at = cond (ltb at (length s)) (recordStep (callAt s at)
 -- each record takes a byte at least, so that no more stand there than the script has bytes
 unfoldable pub recordsAt : List ℕ → ℕ → Records
 recordsAt s at = recordsFrom (length s) s at
+
+-- ---- where they end, and their bytes
+
+-- reading ends at the script's end, or at a record that can't be read
+abbrev pub Stops : List ℕ → ℕ → Fault → Type 0
+Stops s end Absent = length s ≤ end
+Stops s end (Present why) = (end < length s) × (callAt s end .next ≡ Refused why)
+
+-- the bytes of calls, one record behind the other
+unfoldable pub recordsBytes : List Call → List ℕ
+recordsBytes [] = []
+recordsBytes (call ∷ calls) = callBytes call ++ recordsBytes calls
 
 -- ---- the script
 

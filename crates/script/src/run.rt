@@ -1,27 +1,29 @@
 // A script, run and printed: the set-up, then the records to its end, each call on the space that the one before left.
 ghost use mathlib.Core.Path.{_≡_};
 ghost use mathlib.Core.Bool.{true};
-ghost use Prim.Native.Nat.{_+_, _≤_};
 ghost use lib.ListN.{length, replicate};
 ghost use lib.Seq.{sets};
 ghost use Rattle.script.specs.Printing.{linesOn, opened, text, textBytes, printedOf, leftOf};
 ghost use Rattle.script.specs.Scripts.{recordsAt};
 ghost use Rattle.space.specs.Spaces.{wellFormed};
-ghost use Rattle.varint.specs.Laws.{Bytes};
+ghost use Rattle.text.specs.Places.{behind};
+ghost use Rattle.varint.specs.Reading.{Bytes};
 use crate::SCRIPT_BYTES;
 use crate::TEXT_BYTES;
 use crate::line::put_config;
 use crate::line::put_held;
-use crate::line::put_line;
-use crate::line::put_refused;
 use crate::line::put_unread;
 use crate::setup::read_config;
+use crate::steps::step;
+use calls::Change;
+use calls::carry_out_unchecked;
 use record::Cursor;
 use record::Next;
-use space::Change;
 use space::Config;
 use space::Opening;
 use space::Space;
+use text::put_line;
+use text::put_refused;
 use tuple::Refusal;
 
 // What printing a script answers.
@@ -76,8 +78,7 @@ fn put_script(out: &mut [u8], script: &[u8]) -> usize
 // The text of a script whose set-up was read.
 fn put_opened(out: &mut [u8], script: &[u8], start: Cursor, config: Config) -> usize
     requires { ⌜ Bytes (now script) ⌝ }
-    requires { ⌜ length (opened config (now script) (start .at)) ≤ textBytes ⌝ }
-    ensures { λ r. ⌜ r ≡ length (opened config (now (script .entry)) (start .at)) ⌝ }
+    ensures { λ r. ⌜ r ≡ behind 0 (length (opened config (now (script .entry)) (start .at))) ⌝ }
     ensures { λ _. ⌜ now (out .exit) ≡ sets (now (out .entry)) 0 (opened config (now (script .entry)) (start .at)) ⌝ }
 {
     let opened = space::fresh(config);
@@ -97,8 +98,7 @@ fn put_opened(out: &mut [u8], script: &[u8], start: Cursor, config: Config) -> u
 fn put_records(out: &mut [u8], at: usize, script: &[u8], start: Cursor, fresh: Space) -> usize
     requires { ⌜ Bytes (now script) ⌝ }
     requires { ⌜ wellFormed fresh ≡ true ⌝ }
-    requires { ⌜ at + length (linesOn 1 fresh (recordsAt (now script) (start .at))) ≤ textBytes ⌝ }
-    ensures { λ r. ⌜ r ≡ at + length (linesOn 1 fresh (recordsAt (now (script .entry)) (start .at))) ⌝ }
+    ensures { λ r. ⌜ r ≡ behind at (length (linesOn 1 fresh (recordsAt (now (script .entry)) (start .at)))) ⌝ }
     ensures { λ _. ⌜ now (out .exit) ≡ sets (now (out .entry)) at (linesOn 1 fresh (recordsAt (now (script .entry)) (start .at))) ⌝ }
 {
     let mut place = at;
@@ -106,16 +106,16 @@ fn put_records(out: &mut [u8], at: usize, script: &[u8], start: Cursor, fresh: S
     let mut space = fresh;
     let mut number: u64 = 1;
     while cursor.at < script.len() {
-        let read = cursor.call(script);
-        let next = read.next;
+        let stepped = step(script, cursor, space);
+        let next = stepped.next;
         let Next::At(behind) = next else {
             let end = put_unread(out, place, number, next);
             return put_held(out, end, space);
         };
-        let call = read.call;
-        let judged = space::judge(space, call);
-        let reply = judged.reply;
-        let change = judged.change;
+        let call = stepped.call;
+        let effect = stepped.effect;
+        let reply = effect.reply;
+        let change = effect.change;
         place = put_line(out, place, number, reply);
         cursor = behind;
         number += 1;
@@ -123,7 +123,7 @@ fn put_records(out: &mut [u8], at: usize, script: &[u8], start: Cursor, fresh: S
             continue;
         }
         let entry = call.entry;
-        space = space::carry_out(space, entry, change);
+        space = carry_out_unchecked(space, entry, change);
     }
     put_held(out, place, space)
 }

@@ -44,10 +44,6 @@ fn no_config(next: Next) -> ReadConfig
 {
     ReadConfig {
         next,
-        config: Config {
-            n: 0,
-            t: 0,
-            policy: 0,
-        },
+        config: Config::blank(),
     }
 }

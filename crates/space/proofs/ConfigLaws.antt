@@ -3,7 +3,8 @@ use Prim.Native.Nat.{_-_, _/_}
 use native.Mathlib.Omega.{arith}
 use mathlib.Core.Bool.{and-eq-true-iff}
 use borrow.Author.Tests.{leb-true, le-leb}
-use Rattle.space.specs.Configs.{processes, policies, sound}
+use Rattle.space.specs.Bounds.{processes, lastPolicy}
+use Rattle.space.specs.Configs.{sound}
 use Rattle.space.specs.Laws.{SoundRule}
 
 pub sound-rule : SoundRule
@@ -15,7 +16,7 @@ sound-rule config = (
       let some = leb-true 1 (config .n) (number .0) in
       let most = leb-true (config .n) processes (number .1) in
       let few = leb-true (config .t) ((config .n - 1) / 3) (faulty .1) in
-      let known = leb-true (config .policy) policies (policy .1) in
+      let known = leb-true (config .policy) lastPolicy (policy .1) in
       omega arith,
-  λ h. rw (le-leb 1 (config .n) (h .0), le-leb (config .n) processes (h .1), le-leb (config .t) ((config .n - 1) / 3) (omega arith), le-leb (config .policy) policies (h .3)),
+  λ h. rw (le-leb 1 (config .n) (h .0), le-leb (config .n) processes (h .1), le-leb (config .t) ((config .n - 1) / 3) (omega arith), le-leb (config .policy) lastPolicy (h .3)),
 )

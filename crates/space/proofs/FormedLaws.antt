@@ -8,12 +8,12 @@ use native.Mathlib.Omega.{arith}
 use lib.ListN.{length, getD}
 use borrow.Author.Tests.{le-leb}
 use Rattle.space.specs.Laws.{WellFormedRule}
-use Rattle.space.specs.Spaces.{placeSound, placesFrom, wellFormed}
-use Rattle.space.proofs.Keys.{stands}
-use Rattle.space.proofs.SpaceRules.{blank-sound, formed-sound, formed-few, formed-places}
+use Rattle.space.specs.Spaces.{placeSound, placesFrom, bounded, wellFormed}
+use Rattle.space.proofs.SpaceRules.{stands, blank-sound, formed-sound, formed-few, formed-places}
 use Rattle.tuple.specs.declared.field.Tuple.{Tuple}
 use Rattle.tuple.specs.Faults.{isEntry}
-use Rattle.tuple.specs.Fields.{capacity, blankTuple}
+use Rattle.tuple.specs.Bounds.{capacity}
+use Rattle.tuple.specs.Fields.{blankTuple}
 use Rattle.tuple.proofs.Blanks.{blank-tuple}
 
 -- places of which the first `count` are used, place by place
@@ -56,7 +56,7 @@ places-rule (suc count) (tuple ∷ tuples) =
     )
 
 pub well-formed-rule : WellFormedRule
-unfolding wellFormed placeSound
+unfolding wellFormed bounded placeSound
 well-formed-rule space typed =
     let rule = places-rule (space .count) (space .tuples) in (
       λ formed. let each = rule .0 (formed-places space formed) in

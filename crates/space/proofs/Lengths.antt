@@ -1,4 +1,4 @@
--- The tuples of a space are 128, each with six places, from what owning it tells.
+-- The tuples of a space are as many as its capacity, each with six places, from what owning it tells.
 use mathlib.Core.Path.{_≡_, sym, _∙_}
 use mathlib.Core.List.{List, [], _∷_, map, List·Memᴰ, List·Memᴰ·not-nil, List·Memᴰ·cases-cons}
 use mathlib.Core.Logic.{⊎-elim}
@@ -9,10 +9,10 @@ use denote.Laws.{Is}
 use denote.Shadow.{shadow}
 use denote.Struct.Declared.{row}
 use Rattle.space.specs.declared.space.Space.{Space}
-use Rattle.space.specs.Laws.{Typed}
+use Rattle.space.specs.Spaces.{Typed}
 use Rattle.space.proofs.space.Space.{the-type}
 use Rattle.tuple.specs.declared.field.Tuple.{Tuple}
-use Rattle.tuple.specs.Fields.{places, capacity}
+use Rattle.tuple.specs.Bounds.{places, capacity}
 use Rattle.tuple.proofs.Lengths.{six}
 use Rattle.tuple.proofs.field.Tuple.{the-field}
 

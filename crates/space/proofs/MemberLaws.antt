@@ -10,8 +10,8 @@ use lib.Dec.{eqb}
 use lib.Pow.{shr-shr}
 use borrow.Author.Tests.{eqb-true, eqb-false, eq-eqb, ne-eqb}
 use borrow.Table.Steps.{cases}
-use Rattle.space.specs.Laws.{Member}
-use Rattle.space.specs.Members.{beyond, within, every, counted}
+use Rattle.space.specs.Laws.{WithinRule, EveryRule}
+use Rattle.space.specs.Members.{Member, beyond, within, every, counted}
 
 -- ---- bits, numbered from 0
 
@@ -51,7 +51,7 @@ beyond-bits (suc n) set =
       λ few. rest .1 (λ j bit. omega (arith, few (suc j) (higher j set ∙ bit))),
     )
 
-pub within-rule : (n set : ℕ) → (within n set ≡ true) ↔ ((k : ℕ) → Member k set → k ≤ n)
+pub within-rule : WithinRule
 unfolding within
 within-rule n set =
     let bits = beyond-bits n set in (
@@ -92,12 +92,21 @@ module _ (test : ℕ → Bool) where
       (λ pass. (0, lowest set ∙ omega (arith, eqb-false (set % 2) 0 e), rw add-zero pass))
       (λ fail. rest (rw (e, fail, zero-add) at h)))
 
-  pub every-rule : (n set : ℕ) → (every test n 1 set ≡ true) ↔ ((k : ℕ) → Member k set → k ≤ n → test k ≡ true)
-  every-rule n set =
-      let bits = every-bits n 1 set in (
-        λ h k member few. let at = member-bit member in rw (at .1) (bits .0 h (at .0) (omega arith) (at .2)),
-        λ pass. bits .1 (λ j below bit. pass (1 + j) (bit-member j set bit) (omega arith)),
-      )
-
   pub counted-rule : (n set : ℕ) → 0 < counted test n 1 set → (k : ℕ) × Member k set × (test k ≡ true)
   counted-rule n set h = let found = counted-bit n 1 set h in (1 + found .0, bit-member (found .0) set (found .1), found .2)
+
+pub every-rule : EveryRule
+every-rule test n set =
+    let bits = every-bits test n 1 set in (
+      λ h k member few. let at = member-bit member in rw (at .1) (bits .0 h (at .0) (omega arith) (at .2)),
+      λ pass. bits .1 (λ j below bit. pass (1 + j) (bit-member j set bit) (omega arith)),
+    )
+
+-- of a set that is in 1 to n, for a test of any P
+pub every-member : {P : ℕ → Type 0} (test : ℕ → Bool) → ((k : ℕ) → (test k ≡ true) ↔ P k) → (n set : ℕ) → ((k : ℕ) → Member k set → k ≤ n)
+    → (every test n 1 set ≡ true) ↔ ((k : ℕ) → Member k set → P k)
+every-member test means n set members =
+    let all = every-rule test n set in (
+      λ h k member. means k .0 (all .0 h k member (members k member)),
+      λ pass. all .1 (λ k member few. means k .1 (pass k member)),
+    )

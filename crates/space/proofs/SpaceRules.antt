@@ -1,21 +1,22 @@
--- A well-formed space is the space of the tuples that it holds, and the space of at most 128 entries is well formed.
+-- A well-formed space is the space of the tuples that it holds, and the space of entries that are not too many is well formed.
 use mathlib.Core.Path.{_≡_, refl, sym, ap₂}
-use Prim.Native.Nat.{ℕ, zero, suc, _-_, _≤_}
+use Prim.Native.Nat.{ℕ, zero, suc, _-_, _≤_, _<_}
 use native.Mathlib.Omega.{arith}
 use mathlib.Core.Bool.{true, false, and-eq-true-iff}
 use mathlib.Core.List.{List, [], _∷_, _++_, List·Memᴰ, List·Memᴰ·head, List·Memᴰ·tail, List·Memᴰ·not-nil, List·Memᴰ·cases-cons, Memᴰ·append-left, Memᴰ·append-right}
 use mathlib.Core.Logic.{⊎-elim}
-use lib.ListN.{length, take, drop, replicate, length-take, length-drop, take-append-drop}
+use lib.ListN.{length, take, drop, getD, replicate, length-take, length-drop, take-append-drop}
 use lib.Seq.{take-append-seam}
 use borrow.Author.Tests.{leb-true, le-leb}
 use Rattle.space.specs.declared.config.Config.{Config}
 use Rattle.space.specs.declared.space.Space.{Space}
 use Rattle.space.specs.Configs.{sound}
-use Rattle.space.specs.Spaces.{held, spaceOf, placeSound, placesFrom, wellFormed}
-use Rattle.space.specs.Laws.{Entries, Typed}
+use Rattle.space.specs.Laws.{TidyFormed}
+use Rattle.space.specs.Spaces.{held, spaceOf, placeSound, placesFrom, bounded, wellFormed, Entries, Typed}
 use Rattle.tuple.specs.declared.field.Tuple.{Tuple}
 use Rattle.tuple.specs.Faults.{isEntry, isBlank, placeBlank, restFrom, restBlank}
-use Rattle.tuple.specs.Fields.{capacity, places, blankTuple}
+use Rattle.tuple.specs.Bounds.{capacity, places}
+use Rattle.tuple.specs.Fields.{blankTuple}
 use Rattle.tuple.proofs.Blanks.{blank-tuple}
 
 -- ---- members
@@ -25,6 +26,17 @@ mem-take n tuples m = rw take-append-drop at (Memᴰ·append-left (drop n tuples
 
 pub mem-drop : {a : Tuple} (n : ℕ) (tuples : List Tuple) → List·Memᴰ a (drop n tuples) → List·Memᴰ a tuples
 mem-drop n tuples m = rw take-append-drop at (Memᴰ·append-right (take n tuples) m)
+
+-- the tuple at a place stands in the list, and each that stands there has a place
+pub stands : (tuples : List Tuple) (i : ℕ) → i < length tuples → List·Memᴰ (getD tuples i blankTuple) tuples
+stands [] i h = absurd (omega arith)
+stands (tuple ∷ tuples) zero h = List·Memᴰ·head refl
+stands (tuple ∷ tuples) (suc i) h = List·Memᴰ·tail (stands tuples i (omega arith))
+
+pub place : (tuples : List Tuple) {tuple : Tuple} → List·Memᴰ tuple tuples → (i : ℕ) × (i < length tuples) × (getD tuples i blankTuple ≡ tuple)
+place [] m = absurd (List·Memᴰ·not-nil m)
+place (first ∷ tuples) m =
+    ⊎-elim (λ e. (0, omega arith, sym e)) (λ rest. let at = place tuples rest in (suc (at .0), omega (arith, at .1), at .2)) (List·Memᴰ·cases-cons m)
 
 -- ---- blank tuples
 
@@ -78,13 +90,13 @@ pub held-of : (config : Config) (tuples : List Tuple) → held (spaceOf config t
 held-of config tuples = take-append-seam tuples (replicate (capacity - length tuples) blankTuple)
 
 pub formed-of : (config : Config) (tuples : List Tuple) → sound config ≡ true → Lawful tuples → wellFormed (spaceOf config tuples) ≡ true
-unfolding wellFormed
+unfolding wellFormed bounded
 formed-of config tuples s lawful =
     rw (s, le-leb (length tuples) capacity (lawful .few)) (places-sound (capacity - length tuples) tuples (lawful .entries))
 
 module _ (space : Space) (formed : wellFormed space ≡ true) where
   tests : (sound (space .config) ≡ true) × (space .count ≤ capacity) × (placesFrom (space .count) (space .tuples) ≡ true)
-  unfolding wellFormed
+  unfolding wellFormed bounded
   tests =
       let places = and-eq-true-iff _ _ .0 formed in
       let few = and-eq-true-iff _ _ .0 (places .0) in
@@ -111,3 +123,6 @@ module _ (space : Space) (formed : wellFormed space ≡ true) where
       let whole : held space ++ replicate (capacity - length (held space)) blankTuple ≡ space .tuples =
       rw (left, ← blank) (take-append-drop (space .count) (space .tuples)) in
       ap₂ (λ (n : ℕ) (l : List Tuple). record { config = space .config; count = n; tuples = l }) counted whole
+
+pub tidy-formed : TidyFormed
+tidy-formed space typed formed = formed-same space formed typed

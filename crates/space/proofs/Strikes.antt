@@ -1,5 +1,5 @@
 -- A member is struck off a set: what a count over it loses, and a test of all no longer asks. From the definitions alone.
-use mathlib.Core.Path.{_≡_, refl, sym, ap, _∙_, fun-ext}
+use mathlib.Core.Path.{_≡_, refl, ap, _∙_, fun-ext}
 use Prim.Native.Nat.{ℕ, zero, suc, _+_, _-_, _*_, _/_, _%_, _≤_, _<_}
 use native.Mathlib.Nat.{zero-add}
 use native.Mathlib.Omega.{arith}
@@ -9,34 +9,13 @@ use lib.Dec.{eqb}
 use lib.ListN.{length, take, drop, getD}
 use borrow.Author.Tests.{eqb-true, eqb-false, eq-eqb, ne-eqb}
 use borrow.Table.Steps.{cases}
+use Rattle.space.specs.declared.config.Config.{Config}
+use Rattle.space.specs.declared.proposal.Sought.{Sought}
 use Rattle.space.specs.Members.{every, counted, strike}
-use Rattle.space.specs.Proposals.{processOf, proposes, proposedIn}
-use Rattle.space.specs.Shapes.{isProposal}
+use Rattle.space.specs.Shapes.{processOf, isProposal}
+use Rattle.space.specs.Proposals.{proposes, proposed}
 use Rattle.tuple.specs.declared.field.Tuple.{Tuple}
 use Rattle.tuple.proofs.Lists.{drop-take-step}
-
-pub strike-most : (q n k set : ℕ) → strike q n k set ≤ set
-unfolding strike
-strike-most q zero k set = omega arith
-strike-most q (suc n) k set =
-    cases (eqb q k) (λ e. rw e (omega arith)) (λ e. rw e (omega (arith, strike-most q n (k + 1) (set / 2))))
-
--- the cases of striking, by tests on n and k
-pub strike-none : (q n k set : ℕ) → n ≡ 0 → set ≡ strike q n k set
-unfolding strike
-strike-none q n k set none = rw none
-
-module _ (q n k set : ℕ) (some : n ≡ 0 → ⊥) where
-  more : n ≡ suc (n - 1)
-  more = omega arith
-
-  pub strike-here : q ≡ k → set - set % 2 ≡ strike q n k set
-  unfolding strike
-  strike-here same = rw (more, eq-eqb q k same)
-
-  pub strike-on : (q ≡ k → ⊥) → set % 2 + 2 * strike q (n - 1) (k + 1) (set / 2) ≡ strike q n k set
-  unfolding strike
-  strike-on other = sym (ap (λ (m : ℕ). strike q m k set) more ∙ rw (ne-eqb q k other))
 
 -- a set without its lowest bit, and its lowest bit below another rest
 module _ (set : ℕ) where
@@ -97,66 +76,71 @@ module _ (q : ℕ) (Q : ℕ → Bool) where
       (λ e. rw (e, every-alike either Q n (k + 1) (set / 2) (either-past k e), even set, even-half set, or-true))
       (λ e. let S = strike q n (k + 1) (set / 2) in rw (e, bit set S, bit-half set S, strike-every n (k + 1) (set / 2)))
 
--- a tuple that proposes in the round, with a code from low to high, does so for its own process alone
-module _ (round low high : ℕ) (tuple : Tuple) where
-  among : (a b c d e : Bool) → a && b && c && d && e ≡ true → (t : Bool) → a && b && t && d && e ≡ t
-  among true true true true true h t = and-true _ ∙ and-true _
-  among true true true true false h t = absurd (false≢true h)
-  among true true true false e h t = absurd (false≢true h)
-  among true true false d e h t = absurd (false≢true h)
-  among true false c d e h t = absurd (false≢true h)
-  among false b c d e h t = absurd (false≢true h)
+-- a tuple that is such a proposal of the round is one of its own process alone
+module _ (config : Config) (sought : Sought) (round : ℕ) (tuple : Tuple) where
+  among : (a b c d : Bool) → a && b && c && d ≡ true → (t : Bool) → a && b && t && d ≡ t
+  among true true true true h t = and-true _
+  among true true true false h t = absurd (false≢true h)
+  among true true false d h t = absurd (false≢true h)
+  among true false c d h t = absurd (false≢true h)
+  among false b c d h t = absurd (false≢true h)
 
-  outside : (a b d e : Bool) → a && b && false && d && e ≡ false
-  outside true true d e = refl
-  outside true false d e = refl
-  outside false b d e = refl
+  outside : (a b d : Bool) → a && b && false && d ≡ false
+  outside true true d = refl
+  outside true false d = refl
+  outside false b d = refl
 
-  proposes-own : proposes round (processOf tuple) low high tuple ≡ true → (λ k. proposes round k low high tuple) ≡ eqb (processOf tuple)
+  abbrev proposer : ℕ → Bool
+  proposer k = proposes config sought round k tuple
+
+  proposes-own : proposer (processOf tuple) ≡ true → proposer ≡ eqb (processOf tuple)
   unfolding proposes
-  proposes-own h = fun-ext (λ k. among (isProposal tuple) _ _ _ _ h (eqb (processOf tuple) k))
+  proposes-own h = fun-ext (λ k. among (isProposal tuple) _ _ _ h (eqb (processOf tuple) k))
 
-  proposes-none : proposes round (processOf tuple) low high tuple ≡ false → _≡_ {A = ℕ → Bool} (λ k. proposes round k low high tuple) (λ k. false)
+  proposes-none : proposer (processOf tuple) ≡ false → proposer ≡ (λ k. false)
   unfolding proposes
   proposes-none h =
       fun-ext (λ k. cases (eqb (processOf tuple) k)
       (λ e. rw (← eqb-true (processOf tuple) k e) h)
-      (λ e. rw e (outside (isProposal tuple) _ _ _)))
+      (λ e. rw e (outside (isProposal tuple) _ _)))
 
   -- what is left of a set when the tuple has struck its process off
   abbrev struck : ℕ → ℕ → ℕ
-  struck n set = cond (proposes round (processOf tuple) low high tuple) (strike (processOf tuple) n 1 set) set
+  struck n set = cond (proposer (processOf tuple)) (strike (processOf tuple) n 1 set) set
 
   module _ (rest : ℕ → Bool) (n set : ℕ) where
     -- the members that the tuple or the rest of a list gives: one if the tuple strikes its process off, and those that the rest then gives
-    strike-tally : counted (λ k. proposes round k low high tuple || rest k) n 1 set ≡ cond (eqb (struck n set) set) 0 1 + counted rest n 1 (struck n set)
+    strike-tally : counted (λ k. proposer k || rest k) n 1 set ≡ cond (eqb (struck n set) set) 0 1 + counted rest n 1 (struck n set)
     strike-tally =
-        cases (proposes round (processOf tuple) low high tuple)
+        cases (proposer (processOf tuple))
         (λ e. rw e (ap (λ (own : ℕ → Bool). counted (λ k. own k || rest k) n 1 set) (proposes-own e) ∙ strike-count (processOf tuple) rest n 1 set))
         (λ e. rw (e, eq-eqb set set refl, zero-add) (ap (λ (own : ℕ → Bool). counted (λ k. own k || rest k) n 1 set) (proposes-none e)))
 
     -- every member is given by the tuple or the rest if the rest gives every one that the tuple leaves
-    strike-each : every (λ k. proposes round k low high tuple || rest k) n 1 set ≡ every rest n 1 (struck n set)
+    strike-each : every (λ k. proposer k || rest k) n 1 set ≡ every rest n 1 (struck n set)
     strike-each =
-        cases (proposes round (processOf tuple) low high tuple)
+        cases (proposer (processOf tuple))
         (λ e. rw e (ap (λ (own : ℕ → Bool). every (λ k. own k || rest k) n 1 set) (proposes-own e) ∙ strike-every (processOf tuple) rest n 1 set))
         (λ e. rw e (ap (λ (own : ℕ → Bool). every (λ k. own k || rest k) n 1 set) (proposes-none e)))
 
 -- one step of a pass that strikes them off
-module _ (round low high n count : ℕ) (tuples : List Tuple) (i : ℕ) (d : Tuple) (below : i < count) (inside : i < length tuples) (rest next : ℕ)
-    (strikes : next ≡ struck round low high (getD tuples i d) n rest)
+module _ (config : Config) (sought : Sought) (round count : ℕ) (tuples : List Tuple) (i : ℕ) (d : Tuple) (below : i < count) (inside : i < length tuples)
+    (rest next : ℕ) (strikes : next ≡ struck config sought round (getD tuples i d) (config .n) rest)
   where
     abbrev given : ℕ → ℕ → Bool
-    given at k = proposedIn (drop at (take count tuples)) round k low high
+    given at = proposed config (drop at (take count tuples)) sought round
 
-    first : given i ≡ (λ k. proposes round k low high (getD tuples i d) || given (i + 1) k)
-    unfolding proposedIn
-    first = ap (λ (l : List Tuple). λ (k : ℕ). proposedIn l round k low high) (drop-take-step count tuples i d below inside)
+    first : given i ≡ (λ k. proposes config sought round k (getD tuples i d) || given (i + 1) k)
+    unfolding proposed
+    first = ap (λ (l : List Tuple). λ (k : ℕ). proposed config l sought round k) (drop-take-step count tuples i d below inside)
 
-    pub tally-step : (found : ℕ) → found ≡ cond (eqb next rest) 0 1 → counted (given i) n 1 rest ≡ found + counted (given (i + 1)) n 1 next
+    pub tally-step : (found : ℕ) → found ≡ cond (eqb next rest) 0 1
+        → counted (given i) (config .n) 1 rest ≡ found + counted (given (i + 1)) (config .n) 1 next
     tally-step found differs =
-        ap (λ (P : ℕ → Bool). counted P n 1 rest) first ∙ strike-tally round low high (getD tuples i d) (given (i + 1)) n rest ∙ rw (← strikes, ← differs)
+        ap (λ (P : ℕ → Bool). counted P (config .n) 1 rest) first
+        ∙ strike-tally config sought round (getD tuples i d) (given (i + 1)) (config .n) rest
+        ∙ rw (← strikes, ← differs)
 
-    pub each-step : every (given i) n 1 rest ≡ every (given (i + 1)) n 1 next
+    pub each-step : every (given i) (config .n) 1 rest ≡ every (given (i + 1)) (config .n) 1 next
     each-step =
-        ap (λ (P : ℕ → Bool). every P n 1 rest) first ∙ strike-each round low high (getD tuples i d) (given (i + 1)) n rest ∙ rw (← strikes)
+        ap (λ (P : ℕ → Bool). every P (config .n) 1 rest) first ∙ strike-each config sought round (getD tuples i d) (given (i + 1)) (config .n) rest ∙ rw (← strikes)

@@ -9,8 +9,8 @@ use lib.Count.{ones, ones-step}
 use lib.Dec.{eqb}
 use borrow.Author.Tests.{eqb-true, eqb-false, ne-eqb}
 use borrow.Table.Steps.{cases}
-use Rattle.space.specs.Laws.{Member, TallyRule}
-use Rattle.space.specs.Members.{counted}
+use Rattle.space.specs.Members.{Member, counted}
+use Rattle.space.specs.Laws.{TallyRule}
 use Rattle.space.proofs.MemberLaws.{Bit, lowest, higher, member-bit, bit-member, onward, within-rule}
 
 -- the lowest bit of a set, if its process k passes

@@ -1,14 +1,7 @@
-pub mod Calls
-pub mod Changes
+pub mod Bounds
 pub mod Configs
-pub mod Default
-pub mod Judging
 pub mod Laws
 pub mod Members
-pub mod Policies
 pub mod Proposals
-pub mod RunLaws
 pub mod Shapes
 pub mod Spaces
-pub mod Turns
-pub mod Weak

@@ -1,17 +1,19 @@
 -- Document 01, "What is returned, and for what": a space (01's board), the tuples that it holds, and when it is well formed.
+use mathlib.Core.Path.{_≡_}
 use Prim.Native.Nat.{ℕ, zero, suc, _-_}
 use mathlib.Core.Bool.{Bool, true, false, cond, _&&_}
-use mathlib.Core.List.{List, [], _∷_, _++_}
+use mathlib.Core.List.{List, [], _∷_, _++_, List·Memᴰ}
 use lib.ListN.{length, take, replicate}
 use lib.Dec.{leb}
 use Rattle.space.specs.declared.config.Config.{Config}
 use Rattle.space.specs.declared.space.Opening.the-variants.{Stands, Unopened}
 use Rattle.space.specs.declared.space.Opened.{Opened}
 use Rattle.space.specs.declared.space.Space.{Space}
-use Rattle.space.specs.Configs.{sound}
+use Rattle.space.specs.Configs.{sound, blankConfig}
 use Rattle.tuple.specs.declared.field.Tuple.{Tuple}
 use Rattle.tuple.specs.Faults.{isEntry, restBlank}
-use Rattle.tuple.specs.Fields.{capacity, blankTuple}
+use Rattle.tuple.specs.Bounds.{places, capacity}
+use Rattle.tuple.specs.Fields.{blankTuple}
 use Rattle.tuple.specs.Refusals.{refusal}
 
 -- the tuples that a space holds, oldest first
@@ -32,16 +34,32 @@ placesFrom count [] = true
 placesFrom zero (tuple ∷ tuples) = placeSound tuple false && placesFrom zero tuples
 placesFrom (suc count) (tuple ∷ tuples) = placeSound tuple true && placesFrom count tuples
 
--- a sound configuration, at most 128 tuples, each an entry within its kinds' ranges, and unused places zero
+-- a sound configuration, and at most 128 tuples
+unfoldable pub bounded : Space → Bool
+bounded space = sound (space .config) && leb (space .count) capacity
+
+-- beside that, each tuple held is an entry within its kinds' ranges, and unused places are zero
 unfoldable pub wellFormed : Space → Bool
-wellFormed space = sound (space .config) && leb (space .count) capacity && placesFrom (space .count) (space .tuples)
+wellFormed space = bounded space && placesFrom (space .count) (space .tuples)
 
 -- ---- a fresh space
-
-abbrev pub blankConfig : Config
-blankConfig = record { n = 0; t = 0; policy = 0 }
 
 -- it holds no tuple; a configuration that is not sound is refused 1, and the space beside is blank
 unfoldable pub freshOf : Config → Opened
 freshOf config =
     cond (sound config) (record { opening = Stands; space = spaceOf config [] }) (record { opening = Unopened (refusal 1); space = spaceOf blankConfig [] })
+
+-- ---- what the laws ask of a space
+
+-- what the struct's types say of it: 128 places, each a tuple of six
+pub record Typed (space : Space) : Type 0 where
+  pub tuples : length (space .tuples) ≡ capacity
+  pub fields : (tuple : Tuple) → List·Memᴰ tuple (space .tuples) → length (tuple .fields) ≡ places
+
+-- it is the one of the tuples it holds: a blank tuple stands at each other place
+abbrev pub Tidy : Space → Type 0
+Tidy space = spaceOf (space .config) (held space) ≡ space
+
+-- each tuple of a list is an entry without fault
+abbrev pub Entries : List Tuple → Type 0
+Entries tuples = (tuple : Tuple) → List·Memᴰ tuple tuples → isEntry tuple ≡ true

@@ -1,29 +1,25 @@
-// The tuple space: configurations, the four calls, and the policies that permit them.
-mod change;
+// The tuple space: its bounds and configuration, sets of processes, what may be proposed and who has proposed what, and the record with its
+// test and a fresh one.
+mod bounds;
 mod config;
-mod default;
-mod judging;
 mod member;
-mod policy;
 mod proposal;
 mod shape;
 mod space;
-mod turn;
-mod weak;
 
-pub use change::Change;
-pub use change::carry_out;
+pub use bounds::LAST_POLICY;
+pub use bounds::PROCESSES;
+pub use bounds::ROUNDS;
 pub use config::Config;
-pub use config::PROCESSES;
-pub use config::ROUNDS;
-pub use judging::Judged;
-pub use judging::judge;
 pub use member::within;
-pub use shape::is_decision;
+pub use proposal::Sought;
+pub use proposal::crowded;
+pub use proposal::decidable;
+pub use proposal::every_proposed;
+pub use proposal::is_taken;
+pub use proposal::offered;
 pub use shape::is_proposal;
-pub use space::Applied;
 pub use space::Opened;
 pub use space::Opening;
 pub use space::Space;
 pub use space::fresh;
-pub use turn::apply;

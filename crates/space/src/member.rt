@@ -1,7 +1,6 @@
 // Sets of processes as numbers: process k is the bit worth 2 to the power k - 1.
 ghost use mathlib.Core.Path.{_≡_};
 ghost use mathlib.Core.Bool.{false};
-ghost use Prim.Native.Nat.{_+_, _≤_};
 ghost use Rattle.space.specs.Members.{within as within·, every, strike as strike·};
 
 // Whether all of a set is in 1 to n.
@@ -39,16 +38,24 @@ pub(crate) fn has_none(n: u64, set: u64) -> bool
     true
 }
 
-// A set without a process, which is looked for from the lowest bit, process k, on.
-pub(crate) fn strike(process: u64, n: u64, k: u64, set: u64) -> u64
-    requires { ⌜ k + n ≤ 16 ⌝ }
-    ensures { λ r. ⌜ r ≡ strike· process n k set ⌝ }
+// A set without a process, if that is one of 1 to n. The bits are passed from the lowest on; what is left of the set is `rest`, and its
+// lowest bit is worth `worth`.
+pub(crate) fn strike(process: u64, n: u64, set: u64) -> u64
+    ensures { λ r. ⌜ r ≡ strike· process n 1 set ⌝ }
 {
-    if n == 0 {
-        return set;
+    let mut rest = set;
+    let mut worth: u64 = 1;
+    let mut k: u64 = 0;
+    while k < n {
+        if process == k + 1 {
+            return set - worth * (rest % 2);
+        }
+        if rest < 2 {
+            return set;
+        }
+        rest /= 2;
+        worth *= 2;
+        k += 1;
     }
-    if process == k {
-        return set - set % 2;
-    }
-    set % 2 + 2 * strike(process, n - 1, k + 1, set / 2)
+    set
 }

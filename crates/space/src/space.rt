@@ -4,7 +4,6 @@ ghost use mathlib.Core.List.{[]};
 ghost use Rattle.space.specs.Spaces.{spaceOf, placeSound, placesFrom, wellFormed, freshOf};
 use crate::config::Config;
 use tuple::Refusal;
-use tuple::Reply;
 use tuple::TUPLES;
 use tuple::Tuple;
 
@@ -26,12 +25,6 @@ pub struct Opened {
     pub space: Space,
 }
 
-// What a call on a space answers, and the space afterwards.
-pub struct Applied {
-    pub reply: Reply,
-    pub space: Space,
-}
-
 // A fresh space, or refusal 1.
 pub fn fresh(config: Config) -> Opened
     ensures { λ r. ⌜ r ≡ freshOf config ⌝ }
@@ -44,11 +37,7 @@ pub fn fresh(config: Config) -> Opened
     } else {
         Opened {
             opening: Opening::Unopened(Refusal::Unsound),
-            space: empty(Config {
-                n: 0,
-                t: 0,
-                policy: 0,
-            }),
+            space: empty(Config::blank()),
         }
     }
 }

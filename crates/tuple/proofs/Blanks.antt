@@ -8,7 +8,8 @@ use lib.Dec.{eqb}
 use borrow.Author.Tests.{eqb-true}
 use Rattle.tuple.specs.declared.field.Field.{Field}
 use Rattle.tuple.specs.declared.field.Tuple.{Tuple}
-use Rattle.tuple.specs.Fields.{places, blankField, blankTuple}
+use Rattle.tuple.specs.Bounds.{places}
+use Rattle.tuple.specs.Fields.{blankField, blankTuple}
 use Rattle.tuple.specs.Faults.{isBlank, placeBlank, restFrom, restBlank}
 
 blank-field : (field : Field) → isBlank field ≡ true → blankField ≡ field

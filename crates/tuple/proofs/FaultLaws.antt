@@ -12,7 +12,8 @@ use Rattle.tuple.specs.declared.field.Tuple.{Tuple}
 use Rattle.tuple.specs.declared.field.Call.{Call}
 use Rattle.tuple.specs.declared.refusal.Refusal.{Refusal}
 use Rattle.tuple.specs.declared.refusal.Refusal.the-variants.{Beyond, Misshapen}
-use Rattle.tuple.specs.Fields.{out, cas, places, blankField, largestOf}
+use Rattle.tuple.specs.Fields.{out, cas, blankField, largestOf}
+use Rattle.tuple.specs.Bounds.{places}
 use Rattle.tuple.specs.Faults.{unless, first, knownHead, fieldFault, fieldsFault, tupleFault, partFault, usesTemplate, usesEntry, usedFault, placeBlank, restFrom, restBlank, callFault}
 use Rattle.tuple.proofs.Lists.{places-more, places-stop}
 

@@ -10,7 +10,7 @@ use denote.Laws.{Is}
 use denote.Shadow.{shadow}
 use denote.Struct.Declared.{row}
 use Rattle.tuple.specs.declared.field.Tuple.{Tuple}
-use Rattle.tuple.specs.Fields.{places, capacity}
+use Rattle.tuple.specs.Bounds.{places, capacity}
 use Rattle.tuple.proofs.field.Tuple.{the-type}
 
 pub six : (t : Tuple) (vs : List Val) → Is (row the-type) t vs → length (t .fields) ≡ places

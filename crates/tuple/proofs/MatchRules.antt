@@ -18,12 +18,12 @@ use Rattle.tuple.specs.declared.matching.Found.the-variants.{At, Nowhere
 use Rattle.tuple.specs.Fields.{defined, blankField, blankTuple}
 use Rattle.tuple.specs.Faults.{isDefined}
 use Rattle.tuple.specs.Matching.{fieldMatches, fieldsMatch, matches, oldestOf}
-use Rattle.tuple.specs.Laws.{Fits, MatchRule, OldestRule}
+use Rattle.tuple.specs.Laws.{FieldMatch, MatchRule, OldestRule}
 use Rattle.tuple.proofs.MatchingLaws.{Passed, found-here, passed-more, found-nowhere}
 
 -- ---- matching
 
-field-rule : (template entry : Field) → (fieldMatches template entry ≡ true) ↔ Fits template entry
+field-rule : (template entry : Field) → (fieldMatches template entry ≡ true) ↔ FieldMatch template entry
 unfolding fieldMatches
 field-rule template entry = (
   λ h. let parts = and-eq-true-iff _ _ .0 h in
@@ -33,7 +33,7 @@ field-rule template entry = (
 )
 
 fields-rule : (n : ℕ) (template entry : List Field) → n ≤ length template → n ≤ length entry
-    → (fieldsMatch (take n template) (take n entry) ≡ true) ↔ ((i : ℕ) → i < n → Fits (getD template i blankField) (getD entry i blankField))
+    → (fieldsMatch (take n template) (take n entry) ≡ true) ↔ ((i : ℕ) → i < n → FieldMatch (getD template i blankField) (getD entry i blankField))
 unfolding fieldsMatch
 fields-rule zero template entry t e = (λ h i below. absurd (omega arith), λ fits. refl)
 fields-rule (suc n) [] entry t e = absurd (omega arith)
@@ -47,7 +47,7 @@ fields-rule (suc n) (asked ∷ template) (given ∷ entry) t e =
 
 -- of tuples that have as many places as the template has fields
 pub matches-rule : (template entry : Tuple) → template .count ≤ length (template .fields) → template .count ≤ length (entry .fields)
-    → (matches template entry ≡ true) ↔ ((entry .count ≡ template .count) × ((i : ℕ) → i < template .count → Fits (getD (template .fields) i blankField) (getD (entry .fields) i blankField)))
+    → (matches template entry ≡ true) ↔ ((entry .count ≡ template .count) × ((i : ℕ) → i < template .count → FieldMatch (getD (template .fields) i blankField) (getD (entry .fields) i blankField)))
 unfolding matches
 matches-rule template entry t e =
     let fields = fields-rule (template .count) (template .fields) (entry .fields) t e in (

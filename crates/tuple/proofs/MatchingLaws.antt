@@ -12,7 +12,8 @@ use Rattle.tuple.specs.declared.field.Tuple.{Tuple}
 use Rattle.tuple.specs.declared.matching.Found.{Found}
 use Rattle.tuple.specs.declared.matching.Found.the-variants.{At, Nowhere}
 use Rattle.tuple.specs.declared.matching.Matched.{Matched}
-use Rattle.tuple.specs.Fields.{places, blankField, blankTuple}
+use Rattle.tuple.specs.Bounds.{places}
+use Rattle.tuple.specs.Fields.{blankField, blankTuple}
 use Rattle.tuple.specs.Matching.{fieldMatches, fieldsMatch, matches, oldestFrom, oldestOf, foundTuple, matchedOf}
 use Rattle.tuple.proofs.Lists.{drop-take-step, drop-take-end}
 

@@ -14,7 +14,8 @@ use Rattle.tuple.specs.declared.field.Tuple.{Tuple}
 use Rattle.tuple.specs.declared.field.Call.{Call}
 use Rattle.tuple.specs.declared.refusal.Refusal.{Refusal}
 use Rattle.tuple.specs.declared.refusal.Refusal.the-variants.{Beyond, Unknown, Misshapen}
-use Rattle.tuple.specs.Fields.{word, processSet, formal, out, cas, places, largestOf, blankField}
+use Rattle.tuple.specs.Fields.{word, processSet, formal, out, cas, largestOf, blankField}
+use Rattle.tuple.specs.Bounds.{places}
 use Rattle.tuple.specs.Faults.{unless, first, knownHead, isDefined, fieldFault, fieldsFault, tupleFault, partFault, usesTemplate, usesEntry, usedFault, restBlank, callFault, isAbsent, isEntry}
 
 -- ---- tests

@@ -16,7 +16,8 @@ use Rattle.tuple.specs.declared.offset.Offset.{Offset}
 use Rattle.tuple.specs.declared.offset.Offset.the-variants.{Bottom, Hundredths}
 use Rattle.tuple.specs.declared.offset.Coded.the-variants.{Code, OutOfRange}
 use Rattle.tuple.specs.declared.offset.Decoded.the-variants.{Means, NoOffset}
-use Rattle.tuple.specs.Offsets.{largestOffset, largestCode, inRange, codeOf, offsetOf, codedOf, decodedOf}
+use Rattle.tuple.specs.Bounds.{largestOffset, largestCode}
+use Rattle.tuple.specs.Offsets.{inRange, codeOf, offsetOf, codedOf, decodedOf}
 use Rattle.tuple.specs.Laws.{OneToOne}
 
 -- ---- the offset that a number stands for

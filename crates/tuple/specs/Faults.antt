@@ -11,7 +11,8 @@ use Rattle.tuple.specs.declared.field.Tuple.{Tuple}
 use Rattle.tuple.specs.declared.field.Call.{Call}
 use Rattle.tuple.specs.declared.refusal.Refusal.{Refusal}
 use Rattle.tuple.specs.Refusals.{refusal}
-use Rattle.tuple.specs.Fields.{word, processSet, defined, formal, out, rdp, cas, places, largestOf}
+use Rattle.tuple.specs.Fields.{word, processSet, defined, formal, out, rdp, cas, largestOf}
+use Rattle.tuple.specs.Bounds.{places}
 
 -- the refusal, unless the test passes; then what comes next
 abbrev pub unless : Bool → Refusal → Fault → Fault

@@ -1,4 +1,4 @@
--- Document 01, "Fields and tuples" and "Calls": kinds, states, words, codes and bounds, each under its name, and what is blank.
+-- Document 01, "Fields and tuples" and "Calls": kinds, states, words and codes, each under its name, and what is blank.
 use Prim.Native.Nat.{ℕ}
 use mathlib.Core.Bool.{cond}
 use lib.ListN.{replicate}
@@ -6,7 +6,7 @@ use lib.Dec.{eqb}
 use Rattle.tuple.specs.declared.field.Field.{Field}
 use Rattle.tuple.specs.declared.field.Tuple.{Tuple}
 use Rattle.tuple.specs.declared.field.Call.{Call}
-use Rattle.tuple.specs.Offsets.{largestCode}
+use Rattle.tuple.specs.Bounds.{places, largestWord, largestCount, largestCode, largestSet}
 
 -- ---- kinds; a process set is 01's seats, process k the bit worth 2 ^ (k - 1)
 
@@ -55,28 +55,7 @@ inp = 3
 abbrev pub cas : ℕ
 cas = 4
 
--- ---- bounds
-
--- the most fields of a tuple
-abbrev pub places : ℕ
-places = 6
-
--- the most tuples of a space
-abbrev pub capacity : ℕ
-capacity = 128
-
--- the largest number of a process
-abbrev pub largestProcess : ℕ
-largestProcess = 4_294_967_295
-
-abbrev pub largestWord : ℕ
-largestWord = 255
-
-abbrev pub largestCount : ℕ
-largestCount = 4_294_967_295
-
-abbrev pub largestSet : ℕ
-largestSet = 32_767
+-- ---- values
 
 -- the largest value of a kind; 0 for what is no kind
 unfoldable pub largestOf : ℕ → ℕ

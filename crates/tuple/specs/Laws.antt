@@ -11,11 +11,12 @@ use Rattle.tuple.specs.declared.offset.Offset.the-variants.{Bottom, Hund
 use Rattle.tuple.specs.declared.field.Field.{Field}
 use Rattle.tuple.specs.declared.field.Tuple.{Tuple}
 use Rattle.tuple.specs.declared.matching.Found.the-variants.{At, Nowhere}
-use Rattle.tuple.specs.Fields.{defined, places, blankField, blankTuple}
+use Rattle.tuple.specs.Fields.{defined, blankField, blankTuple}
+use Rattle.tuple.specs.Bounds.{places, largestCode}
 use Rattle.tuple.specs.Matching.{matches, oldestOf}
 use Rattle.tuple.specs.declared.refusal.Refusal.{Refusal}
 use Rattle.tuple.specs.Refusals.{numberOf, refusal}
-use Rattle.tuple.specs.Offsets.{largestCode, inRange, codeOf, offsetOf}
+use Rattle.tuple.specs.Offsets.{inRange, codeOf, offsetOf}
 
 -- each refusal is the one of its number
 abbrev pub Numbered : Type 0
@@ -35,7 +36,7 @@ pub record OneToOne : Type 0 where
 -- ---- matching, in 01's words
 
 -- two fields at one place: the same kind, and equal values if the template's is defined
-pub record Fits (template entry : Field) : Type 0 where
+pub record FieldMatch (template entry : Field) : Type 0 where
   pub kind : template .kind ≡ entry .kind
   pub value : template .state ≡ defined → template .value ≡ entry .value
 
@@ -47,7 +48,7 @@ MatchRule =
     → length (template .fields) ≡ places
     → length (entry .fields) ≡ places
     → template .count ≤ places
-    → (matches template entry ≡ true) ↔ ((entry .count ≡ template .count) × ((i : ℕ) → i < template .count → Fits (getD (template .fields) i blankField) (getD (entry .fields) i blankField)))
+    → (matches template entry ≡ true) ↔ ((entry .count ≡ template .count) × ((i : ℕ) → i < template .count → FieldMatch (getD (template .fields) i blankField) (getD (entry .fields) i blankField)))
 
 -- the oldest tuple that matches stands at i when it matches and none before it does; there is none when none does
 pub record OldestRule : Type 0 where

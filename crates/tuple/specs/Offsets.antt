@@ -9,15 +9,12 @@ use Rattle.tuple.specs.declared.offset.Coded.{Coded}
 use Rattle.tuple.specs.declared.offset.Coded.the-variants.{Code, OutOfRange}
 use Rattle.tuple.specs.declared.offset.Decoded.{Decoded}
 use Rattle.tuple.specs.declared.offset.Decoded.the-variants.{Means, NoOffset}
+use Rattle.tuple.specs.Bounds.{largestOffset, largestCode}
 use Rattle.tuple.specs.Refusals.{refusal}
 
--- the largest offset; the least is its negative
-abbrev pub largestOffset : ℕ
-largestOffset = 100_000
-
--- the largest number that stands for an offset
-abbrev pub largestCode : ℕ
-largestCode = 200_001
+-- the number that stands for bottom (01's default mark)
+abbrev pub bottom : ℕ
+bottom = 0
 
 -- bottom, or an offset from the least to the largest
 abbrev pub inRange : Offset → Bool
@@ -26,14 +23,14 @@ inRange (Hundredths z) = leb (natAbs z) largestOffset
 
 -- 0 for bottom, 1 + 2z for z from zero up, -2z for z below zero; `negsuc k` is -(k + 1)
 abbrev pub codeOf : Offset → ℕ
-codeOf Bottom = 0
+codeOf Bottom = bottom
 codeOf (Hundredths (pos z)) = 1 + 2 * z
 codeOf (Hundredths (negsuc k)) = 2 * (k + 1)
 
 -- the offset that a number stands for
 abbrev pub offsetOf : ℕ → Offset
 offsetOf code =
-    cond (eqb code 0) Bottom (cond (eqb (code % 2) 1) (Hundredths (pos (code / 2))) (Hundredths (negℤ (pos (code / 2)))))
+    cond (eqb code bottom) Bottom (cond (eqb (code % 2) 1) (Hundredths (pos (code / 2))) (Hundredths (negℤ (pos (code / 2)))))
 
 -- what coding an offset answers, on every offset
 unfoldable pub codedOf : Offset → Coded

@@ -2,10 +2,10 @@
 ghost use mathlib.Core.Path.{_≡_};
 ghost use mathlib.Core.Bool.{false};
 ghost use Rattle.tuple.specs.Faults.{isEntry, fieldFault, tupleFault, partFault, usedFault, callFault, placeBlank, isBlank, restFrom, restBlank, usesTemplate, usesEntry};
+use crate::bounds::FIELDS;
 use crate::field::CAS;
 use crate::field::Call;
 use crate::field::DEFINED;
-use crate::field::FIELDS;
 use crate::field::FORMAL;
 use crate::field::Field;
 use crate::field::OUT;

@@ -1,6 +1,11 @@
 // Fields, tuples and calls: plain numbers, so that anything can be handed in and get its refusal.
 ghost use mathlib.Core.Path.{_≡_};
 ghost use Rattle.tuple.specs.Fields.{largestOf, blankField, blankTuple, blankCall};
+use crate::bounds::FIELDS;
+use crate::bounds::LARGEST_CODE;
+use crate::bounds::LARGEST_COUNT;
+use crate::bounds::LARGEST_SET;
+use crate::bounds::LARGEST_WORD;
 
 // The kinds of a field; a process set is 01's seats.
 pub const WORD: u8 = 1;
@@ -31,23 +36,6 @@ pub const RDP: u8 = 2;
 pub const INP: u8 = 3;
 
 pub const CAS: u8 = 4;
-
-// The most fields of a tuple, and the most tuples of a space.
-pub const FIELDS: usize = 6;
-
-pub const TUPLES: usize = 128;
-
-// The largest number of a process.
-pub const LARGEST_PROCESS: u32 = 0xFFFF_FFFF;
-
-// The largest value of each kind; an offset's is its largest code.
-pub const LARGEST_WORD: u64 = 255;
-
-pub const LARGEST_COUNT: u64 = 4_294_967_295;
-
-pub const LARGEST_CODE: u64 = 200_001;
-
-pub const LARGEST_SET: u64 = 32_767;
 
 // A field: its kind, its state and its value. An offset's value is its code.
 #[repr(C)]

@@ -2,11 +2,11 @@
 ghost use mathlib.Core.Path.{_≡_};
 ghost use Prim.Native.Nat.{min};
 ghost use lib.ListN.{take};
-ghost use Rattle.tuple.specs.Matching.{fieldMatches, matches, matchedOf};
+ghost use Rattle.tuple.specs.Matching.{fieldMatches, matchedOf};
+use crate::bounds::FIELDS;
+use crate::bounds::TUPLES;
 use crate::field::DEFINED;
-use crate::field::FIELDS;
 use crate::field::Field;
-use crate::field::TUPLES;
 use crate::field::Tuple;
 
 // Where a matching tuple stands.
@@ -56,30 +56,8 @@ pub fn oldest(tuples: [Tuple; TUPLES], count: usize, template: Tuple) -> Matched
     }
 }
 
-impl Tuple {
-    // Whether an entry matches this template.
-    pub fn matches(self, entry: Tuple) -> bool
-        ensures { λ r. ⌜ r ≡ matches self entry ⌝ }
-    {
-        let wanted = self.count;
-        if entry.count != wanted {
-            return false;
-        }
-        let places = least(wanted, FIELDS);
-        let mut j = 0;
-        while j < places {
-            let asked = self.fields[j];
-            let given = entry.fields[j];
-            if !field_matches(asked, given) {
-                return false;
-            }
-            j += 1;
-        }
-        true
-    }
-}
-
-fn least(a: usize, b: usize) -> usize
+// The smaller of two numbers.
+pub fn least(a: usize, b: usize) -> usize
     ensures { λ r. ⌜ r ≡ min a b ⌝ }
 {
     if a < b { a } else { b }

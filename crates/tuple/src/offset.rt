@@ -1,11 +1,12 @@
 // Offsets in hundredths of a needle space, signed, or bottom, and the number that stands for each in a field.
 ghost use mathlib.Core.Path.{_≡_};
 ghost use Rattle.tuple.specs.Offsets.{codedOf, decodedOf};
-use crate::field::LARGEST_CODE;
+use crate::bounds::LARGEST_CODE;
+use crate::bounds::LARGEST_OFFSET;
 use crate::refusal::Refusal;
 
-// The largest offset; the least is its negative.
-pub const LARGEST_OFFSET: i32 = 100_000;
+// The code of bottom.
+pub const BOTTOM: u64 = 0;
 
 // An offset: bottom (01's default mark), or hundredths of a needle space.
 pub enum Offset {
@@ -31,7 +32,7 @@ impl Offset {
         ensures { λ r. ⌜ r ≡ codedOf self ⌝ }
     {
         match self {
-            Offset::Bottom => Coded::Code(0),
+            Offset::Bottom => Coded::Code(BOTTOM),
             Offset::Hundredths(z) => {
                 if LARGEST_OFFSET < z {
                     return Coded::OutOfRange(Refusal::Beyond);
@@ -55,7 +56,7 @@ impl Offset {
         if LARGEST_CODE < code {
             return Decoded::NoOffset(Refusal::Beyond);
         }
-        if code == 0 {
+        if code == BOTTOM {
             return Decoded::Means(Offset::Bottom);
         }
         let half = (code / 2) as i32;

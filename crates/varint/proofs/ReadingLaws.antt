@@ -11,9 +11,9 @@ use borrow.Author.Tests.{le-ltb, le-leb, ne-eqb, ltb-true, ltb-false, leb-true, 
 use borrow.Table.Steps.{cases}
 use Rattle.varint.specs.declared.Number.{Number}
 use Rattle.varint.specs.declared.Number.the-variants.{Value, Cut, Overlong}
-use Rattle.varint.specs.Reading.{further, lastGroup, largest, joined, numberFrom, numberAt}
+use Rattle.varint.specs.Reading.{further, lastGroup, largest, joined, numberFrom, numberAt, Bytes}
 use Rattle.varint.specs.Writing.{bytesOf, widthOf}
-use Rattle.varint.specs.Laws.{Bytes, ReadBack, OnlyForm}
+use Rattle.varint.specs.Laws.{ReadBack, OnlyForm}
 use Rattle.varint.proofs.WritingLaws.{bytes-last, bytes-step}
 
 -- the largest number that `more` groups behind the first hold

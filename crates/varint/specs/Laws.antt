@@ -1,18 +1,13 @@
 -- The laws of numbers, as claims over the definitions.
 use mathlib.Core.Path.{_≡_}
-use Prim.Native.Nat.{ℕ, _+_, _≤_, _<_}
-use mathlib.Core.List.{List, [], _∷_, _++_}
+use Prim.Native.Nat.{ℕ, _+_, _≤_}
+use mathlib.Core.List.{List, _++_}
 use lib.ListN.{drop}
 use Rattle.varint.specs.declared.Number.{Number}
 use Rattle.varint.specs.declared.Number.the-variants.{Value}
 use Rattle.varint.specs.declared.Written.{Written}
-use Rattle.varint.specs.Reading.{largest, numberRefusal, refused, numberAt}
+use Rattle.varint.specs.Reading.{largest, numberRefusal, refused, numberAt, Bytes}
 use Rattle.varint.specs.Writing.{bytesOf, widthOf, writtenRefusal, unwritten}
-
--- each element is a byte
-abbrev pub Bytes : List ℕ → Type 0
-Bytes [] = Unit {0}
-Bytes (b ∷ l) = (b < 256) × Bytes l
 
 -- what is written reads back, at every place and with any bytes behind it
 abbrev pub ReadBack : Type 0

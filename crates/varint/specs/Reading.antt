@@ -1,5 +1,5 @@
 -- Document 01, "Bytes": what reading a number answers, each refusal by 01's number.
-use Prim.Native.Nat.{ℕ, zero, suc, _+_, _-_, _*_, _%_}
+use Prim.Native.Nat.{ℕ, zero, suc, _+_, _-_, _*_, _%_, _<_}
 use mathlib.Core.Bool.{cond}
 use mathlib.Core.List.{List, [], _∷_}
 use lib.ListN.{drop}
@@ -49,3 +49,8 @@ numberFrom (suc more) (byte ∷ l) at = cond (ltb byte 128) (Value byte (at + 1)
 -- the number at a place of s
 unfoldable pub numberAt : List ℕ → ℕ → Number
 numberAt s at = numberFrom further (drop at s) at
+
+-- each element is a byte
+abbrev pub Bytes : List ℕ → Type 0
+Bytes [] = Unit {0}
+Bytes (b ∷ l) = (b < 256) × Bytes l

@@ -1,5 +1,5 @@
 //! The proved library and the plain Rust version side by side: same inputs, interleaved, medians of many rounds. The plain version tests
-//! the whole board at every call; the proved one does where a space is handed in from elsewhere (`board_apply`).
+//! the whole board at every call, the proved one wherever a space is handed in (`board_apply`), but not inside a script.
 //!
 //!     bench [the proved program board] [the Rust program board]
 //!
@@ -12,11 +12,14 @@ use std::io::Write;
 use std::process::{Command, Stdio};
 use std::time::{Duration, Instant};
 
+use reference::board::MOST_TUPLES;
+use reference::fields::MOST_SEATS;
+use reference::policy::LAST_ROUND;
 use reference::records::{read_record, record_of};
 use reference::{flat, script, sys};
 use reference::{Answer, Board, Call, Config, Field, Kind, Offset, Seat, Step, Tuple};
 
-const FULL: Config = Config { n: 15, t: 4, policy: 2 };
+const FULL: Config = Config { n: MOST_SEATS, t: (MOST_SEATS - 1) / 3, policy: 2 };
 
 /// The medians of both sides, measured in turn.
 fn medians(rounds: usize, mut ours: impl FnMut(), mut plain: impl FnMut()) -> (Duration, Duration) {
@@ -55,7 +58,7 @@ fn line(name: &str, (ours, plain): (Duration, Duration)) {
 fn records() -> Vec<u8> {
     let mut bytes = Vec::new();
     for k in 0..1000u64 {
-        let (round, seat) = (k % 8, 1 + k % 15);
+        let (round, seat) = (k % (LAST_ROUND + 1), 1 + k % MOST_SEATS);
         let offset = 1 + k * 7919 % Offset::LAST;
         let call = match k % 4 {
             0 => Call::out(seat as u32, Tuple::proposal(round, seat, offset)),
@@ -93,54 +96,39 @@ fn choice(round: u64, k: u32) -> i32 {
     (k as i32 + round as i32) % (round as i32 + 1) * 50 - 100
 }
 
-/// Makes a call on a space that is well formed all along.
-fn judged(space: &mut sys::Space, call: &sys::Call) -> sys::Reply {
-    let judged = sys::judge(space, call);
-    if judged.change != 0 {
-        *space = sys::carry_out(space, &call.entry, judged.change, judged.at);
-    }
-    judged.reply
-}
-
-/// Makes a call on a space that is tested first.
-fn applied(space: &mut sys::Space, call: &sys::Call) -> sys::Reply {
-    let applied = sys::apply(*space, *call);
-    *space = applied.space;
-    applied.reply
-}
-
-/// Eight rounds in which all fifteen follow; how many calls were made.
-fn rounds_ours(make: impl Fn(&mut sys::Space, &sys::Call) -> sys::Reply) -> usize {
+/// All rounds, in which all seats follow; how many calls were made.
+fn rounds_ours() -> usize {
     let config = flat::config(&FULL);
     let mut space = sys::fresh(config).space;
     let mut calls = 0;
-    for round in 0..8 {
+    for round in 0..=LAST_ROUND {
         let mut steps: Vec<sys::Step> =
-            (1..=15).map(|k| sys::start(config, k, round, 0, choice(round, k))).collect();
+            (1..=MOST_SEATS as u32).map(|k| sys::start(config, k, round, 0, choice(round, k))).collect();
         while steps.iter().any(|step| step.next == 0) {
             for step in &mut steps {
                 if step.next == 0 {
-                    let reply = make(&mut space, &step.call);
-                    *step = sys::resume(step.process, reply);
+                    let applied = sys::apply(space, step.call);
+                    space = applied.space;
+                    *step = sys::resume(step.process, applied.reply);
                     calls += 1;
                 }
             }
         }
     }
-    assert_eq!(space.count, 128);
+    assert_eq!(space.count, MOST_TUPLES);
     calls
 }
 
 fn rounds_plain() -> usize {
     let mut board = Board::fresh(FULL).expect("a sound set-up");
     let mut calls = 0;
-    for round in 0..8 {
+    for round in 0..=LAST_ROUND {
         let start = |k| {
             let offset = Offset::Number(choice(round, k).into()).travelling().expect("in range");
             let (seat, out) = Seat::start(FULL, k, round, offset).expect("a seat that may start");
             (seat, Some(out))
         };
-        let mut seats: Vec<(Seat, Option<Call>)> = (1..=15).map(start).collect();
+        let mut seats: Vec<(Seat, Option<Call>)> = (1..=MOST_SEATS as u32).map(start).collect();
         while seats.iter().any(|(_, due)| due.is_some()) {
             for (seat, due) in &mut seats {
                 if let Some(call) = due.take() {
@@ -155,19 +143,20 @@ fn rounds_plain() -> usize {
             }
         }
     }
-    assert_eq!(board.count, 128);
+    assert_eq!(board.count, MOST_TUPLES);
     calls
 }
 
-/// A bare board filled with 128 tuples, then rdp and cas in turn up to the longest script.
+/// A bare board filled with tuples, then rdp and cas in turn up to the longest script.
 fn long_script() -> Vec<u8> {
-    let mut bytes = vec![15, 4, 0];
+    let mut bytes = vec![FULL.n as u8, FULL.t as u8, 0];
     let entry = |k: u64| Tuple::of(&[Field::given(Kind::Count, k), Field::given(Kind::Offset, 1 + k)]);
-    for k in 0..128 {
+    for k in 0..MOST_TUPLES as u64 {
         bytes.extend(record_of(&Call::out(1, entry(k))).expect("a sound call"));
     }
     for k in 0.. {
-        let template = Tuple::of(&[Field::given(Kind::Count, k * 37 % 128), Field::open(Kind::Offset)]);
+        let template =
+            Tuple::of(&[Field::given(Kind::Count, k * 37 % MOST_TUPLES as u64), Field::open(Kind::Offset)]);
         let call = if k % 2 == 0 { Call::rdp(2, template) } else { Call::cas(3, template, entry(k)) };
         let record = record_of(&call).expect("a sound call");
         if bytes.len() + record.len() > script::LONGEST_SCRIPT {
@@ -198,13 +187,12 @@ fn least(trial: impl Fn(usize) -> bool) -> usize {
 }
 
 /// The functions of the library whose stack is measured; none gives what a thread of Rust needs itself.
-const FUNCTIONS: [&str; 10] =
-    ["none", "read", "write", "start", "resume", "fresh", "apply", "judge", "carry_out", "script"];
+const FUNCTIONS: [&str; 8] = ["none", "read", "write", "start", "resume", "fresh", "apply", "script"];
 
 /// Calls one function of the library on a thread with so many KB of stack; too few end the program.
 fn on_a_thread(function: String, kilobytes: usize) {
     let mut board = Board::fresh(FULL).expect("a sound set-up");
-    for k in 0..15 {
+    for k in 0..MOST_SEATS {
         board.tuples[k as usize] = Tuple::proposal(0, 1 + k, 1 + k % 4);
         board.count += 1;
     }
@@ -221,8 +209,6 @@ fn on_a_thread(function: String, kilobytes: usize) {
             let process = sys::start(space.config, 1, 0, 0, 5).process;
             assert_eq!(black_box(sys::resume(process, sys::Reply::default())).refusal, 0);
         }
-        "judge" => assert_eq!(black_box(sys::judge(&space, &call)).reply.refusal, 0),
-        "carry_out" => assert_eq!(black_box(sys::carry_out(&space, &call.entry, 1, 0)).count, 16),
         "apply" => assert_eq!(black_box(sys::apply(*space, call)).reply.refusal, 0),
         "script" => assert!(black_box(sys::script(&long, &mut text)).is_ok()),
         _ => {}
@@ -262,11 +248,9 @@ fn main() {
     line("a  reading 1,000 records", medians(301, || read_ours(&bytes), || read_plain(&bytes)));
 
     let calls = rounds_plain();
-    assert_eq!((rounds_ours(judged), rounds_ours(applied)), (calls, calls));
-    let rounds = medians(41, || _ = black_box(rounds_ours(judged)), || _ = black_box(rounds_plain()));
-    line(&format!("b  eight rounds, n = 15, t = 4, all follow: {calls} calls"), rounds);
-    let tested = medians(41, || _ = black_box(rounds_ours(applied)), || _ = black_box(rounds_plain()));
-    line("   the same by board_apply, which tests each space", tested);
+    assert_eq!(rounds_ours(), calls);
+    let rounds = medians(41, || _ = black_box(rounds_ours()), || _ = black_box(rounds_plain()));
+    line(&format!("b  eight rounds, n = {}, t = {}, all follow: {calls} calls", FULL.n, FULL.t), rounds);
 
     let long = long_script();
     let (mut text, mut other) = (vec![0; 2_000_000], vec![0; 2_000_000]);

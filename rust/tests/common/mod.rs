@@ -3,9 +3,9 @@
 
 #![allow(dead_code)]
 
+use reference::fields::{MOST_FIELDS, MOST_SEATS};
 use reference::records::{read_record, record_of, write_record};
 use reference::script::run_into;
-use reference::sys::TUPLES;
 use reference::{flat, sys};
 use reference::{
     Answer, AnswerKind, Board, Call, Config, Field, Kind, Offset, Phase, Refusal, Seat, Step, Tuple,
@@ -56,9 +56,9 @@ pub const VALUES: [u64; 30] = [
     7,
     8,
     9,
-    14,
-    15,
-    16,
+    MOST_SEATS - 1,
+    MOST_SEATS,
+    MOST_SEATS + 1,
     127,
     128,
     129,
@@ -66,8 +66,8 @@ pub const VALUES: [u64; 30] = [
     256,
     16_383,
     16_384,
-    32_767,
-    32_768,
+    Kind::Seats.last(),
+    Kind::Seats.last() + 1,
     199_999,
     200_000,
     200_001,
@@ -82,23 +82,19 @@ pub const KINDS: [u8; 7] = [0, 1, 2, 3, 4, 5, 255];
 pub const STATES: [u8; 5] = [0, 1, 2, 3, 255];
 pub const COUNTS: [usize; 9] = [0, 1, 2, 3, 4, 5, 6, 7, usize::MAX];
 pub const CODES: [u8; 7] = [0, 1, 2, 3, 4, 5, 255];
-pub const SEATS: [u32; 9] = [0, 1, 2, 4, 5, 15, 16, 127, u32::MAX];
+pub const SEATS: [u32; 9] = [0, 1, 2, 4, 5, MOST_SEATS as u32, MOST_SEATS as u32 + 1, 127, u32::MAX];
 
 pub fn config(dice: &mut Dice) -> Config {
-    let n = 1 + dice.below(15);
+    let n = 1 + dice.below(MOST_SEATS);
     Config { n, t: dice.below((n - 1) / 3 + 1), policy: dice.below(3) }
 }
 
 /// A set-up at or beyond its bounds.
 pub fn odd_config(dice: &mut Dice) -> Config {
     let third = u64::MAX / 3;
-    let n = dice.pick(&[0, 1, 3, 4, 6, 7, 15, 16, u64::MAX]);
+    let n = dice.pick(&[0, 1, 3, 4, 6, 7, MOST_SEATS, MOST_SEATS + 1, u64::MAX]);
     let t = dice.pick(&[0, 1, 2, 4, 5, third, third + 1, u64::MAX]);
     Config { n, t, policy: dice.pick(&[0, 1, 2, 3, u64::MAX]) }
-}
-
-pub fn last(kind: Kind) -> u64 {
-    kind.last()
 }
 
 /// A field that an entry, or a template, may have.
@@ -133,8 +129,9 @@ pub fn good_call(dice: &mut Dice) -> Call {
     }
 }
 
-/// How many numbers a call consists of.
-pub const PARTS: u64 = 2 + 2 * 19;
+/// How many numbers a tuple consists of, and a call.
+pub const TUPLE_PARTS: u64 = 1 + 3 * MOST_FIELDS as u64;
+pub const PARTS: u64 = 2 + 2 * TUPLE_PARTS;
 
 /// Gives one number of a call another value, near its bounds or any.
 pub fn spoil(dice: &mut Dice, call: &mut Call, part: u64) {
@@ -142,8 +139,8 @@ pub fn spoil(dice: &mut Dice, call: &mut Call, part: u64) {
         0 => call.process = dice.pick(&SEATS),
         1 => call.code = dice.pick(&CODES),
         _ => {
-            let tuple = if part < 2 + 19 { &mut call.template } else { &mut call.entry };
-            spoil_tuple(dice, tuple, (part - 2) % 19);
+            let tuple = if part < 2 + TUPLE_PARTS { &mut call.template } else { &mut call.entry };
+            spoil_tuple(dice, tuple, (part - 2) % TUPLE_PARTS);
         }
     }
 }
@@ -161,6 +158,24 @@ pub fn spoil_tuple(dice: &mut Dice, tuple: &mut Tuple, part: u64) {
     }
 }
 
+/// Gives one number of a place of a well-formed board a value that no such board has there.
+pub fn soil(dice: &mut Dice, place: &mut Tuple, part: u64) {
+    if part == 0 {
+        let others: Vec<usize> = COUNTS.into_iter().filter(|count| *count != place.count).collect();
+        place.count = dice.pick(&others);
+        return;
+    }
+    // A field in use has a kind, an unused one is blank.
+    let field = &mut place.fields[(part - 1) as usize / 3];
+    match (part % 3, Kind::from_number(field.kind)) {
+        (0, Some(_)) => field.kind = dice.pick(&[0, 5, 255]),
+        (0, None) => field.kind = dice.pick(&KINDS[1..]),
+        (1, _) => field.state = dice.pick(&STATES[1..]),
+        (_, Some(kind)) => field.value = dice.pick(&[kind.last() + 1, u64::MAX]),
+        (_, None) => field.value = dice.pick(&VALUES[1..]),
+    }
+}
+
 // ---- the comparisons
 
 /// A call on a board, by both: the answer and the whole board afterwards must be equal.
@@ -172,51 +187,7 @@ pub fn compare_call(board: &mut Board, call: &Call) -> Answer {
     if ours != expected {
         panic!("{call:?}\non {before:?}\nproved {ours:?}\nplain {expected:?}");
     }
-    compare_judged(&before, call);
     answer
-}
-
-/// The same call judged and carried out. The places are not tested, and what stands behind the tuples held does not matter: the answer and
-/// the tuples held are those of the board with nothing behind them, if that is well formed.
-fn compare_judged(before: &Board, call: &Call) {
-    let (space, flat_call) = (flat::space(before), flat::call(call));
-    let judged = sys::judge(&space, &flat_call);
-    let carried = sys::carry_out(&space, &flat_call.entry, judged.change, judged.at);
-    let context = || format!("{call:?}\non {before:?}\njudged {judged:?}\ncarried out {carried:?}");
-    assert!(judged.change == 2 || judged.at == 0, "{}", context());
-    if before.config.check().is_err() || before.count > TUPLES {
-        let refused = flat::reply(&Answer::from(Refusal::Unsound));
-        assert!(judged.reply == refused && judged.change == 0, "{}", context());
-        return;
-    }
-    let mut tidy = before.clone();
-    tidy.tuples[before.count..].fill(Tuple::BLANK);
-    if tidy.check().is_ok() {
-        let answer = Answer::from(tidy.call(call));
-        let expected = flat::space(&tidy);
-        assert!(judged.reply == flat::reply(&answer), "{}", context());
-        assert!(carried.count == expected.count, "{}", context());
-        assert!(carried.tuples[..carried.count] == expected.tuples[..carried.count], "{}", context());
-        assert!(before.check().is_err() || carried == expected, "{}", context());
-    }
-}
-
-/// A change carried out on any board: an entry that has no room, a place that holds no tuple and a count above 128 change nothing.
-pub fn compare_change(board: &Board, entry: &Tuple, change: u8, at: usize) {
-    let before = flat::space(board);
-    let mut expected = before;
-    let count = before.count;
-    if change == 1 && count < TUPLES {
-        expected.tuples[count] = flat::tuple(entry);
-        expected.count += 1;
-    }
-    if change == 2 && count <= TUPLES && at < count {
-        expected.tuples[at..count].rotate_left(1);
-        expected.count -= 1;
-        expected.tuples[expected.count] = sys::Tuple::default();
-    }
-    let ours = sys::carry_out(&before, &flat::tuple(entry), change, at);
-    assert!(ours == expected, "{change} {at} {entry:?}\non {board:?}\nproved {ours:?}");
 }
 
 /// Writing a call's record, by both: the length or refusal and the whole buffer.

@@ -2,7 +2,7 @@
 use borrow.Author.Needs.{needs}
 use mathlib.Core.Path.{ap, _∙_}
 use mir.Facts.{toZ-ofZ}
-use Rattle.board_c.specs.Flat.{flatStep, offsetOf}
+use Rattle.board_c.specs.Flat.{flatStep, flaggedOffset}
 use Rattle.process.specs.Procedure.{started}
 use Rattle.board_c.proofs.board_start.Statement.{statement}
 use Rattle.board_c.proofs.board_start.Tie as tie
@@ -19,7 +19,7 @@ flat-step-requires c κs = search needs
 returns : tie.Need-returns
 returns c =
     let a = c .before .before .before .args in
-    c .flat-step .ensures ∙ ap flatStep (c .before .start .ensures ∙ ap (started (a .config) (a .process) (a .round)) (c .before .before .offset-of .ensures ∙ ap (offsetOf (a .bottom)) (toZ-ofZ (c .before .before .before .fits .hundredths))))
+    c .flat-step .ensures ∙ ap flatStep (c .before .start .ensures ∙ ap (started (a .config) (a .process) (a .round)) (c .before .before .offset-of .ensures ∙ ap (flaggedOffset (a .bottom)) (toZ-ofZ (c .before .before .before .fits .hundredths))))
 
 pub board-start-spec : {M : Type 1} → statement M
 board-start-spec =

@@ -1,4 +1,4 @@
--- `edges::cases::filled` ends: the number of calls counts up to the times.
+-- `edges::cases::filled` ends: the number of outs counts up to the times.
 use borrow.Author.Needs.{needs}
 use Prim.Native.Nat.{_-_, _≤_}
 use native.Mathlib.Omega.{arith}
@@ -6,16 +6,16 @@ use Rattle.edges.proofs.cases.filled.Statement.{statement}
 use Rattle.edges.proofs.cases.filled.Tie as tie
 
 abbrev Inv-loop : tie.InvT-loop
-Inv-loop call times board₀ i₀ board i = i ≤ times
+Inv-loop entry times board₀ i₀ board i = i ≤ times
 
 abbrev μ-loop : tie.MeasureT-loop
-μ-loop call times board₀ i₀ board i = times - i
+μ-loop entry times board₀ i₀ board i = times - i
 
 loop-holds : tie.Need-loop-holds Inv-loop μ-loop
 loop-holds c = omega arith
 
-quietly-requires : tie.Need-quietly-requires Inv-loop μ-loop
-quietly-requires c κs = search needs
+quiet-out-requires : tie.Need-quiet-out-requires Inv-loop μ-loop
+quiet-out-requires c κs = search needs
 
 add-i : tie.Need-add-i Inv-loop μ-loop
 add-i c = omega arith
@@ -32,4 +32,4 @@ returns c = search needs
 pub filled-spec : {M : Type 1} → statement M
 filled-spec =
     tie.close
-    (tie.spec Inv-loop μ-loop loop-holds quietly-requires add-i loop-less loop-again returns)
+    (tie.spec Inv-loop μ-loop loop-holds quiet-out-requires add-i loop-less loop-again returns)

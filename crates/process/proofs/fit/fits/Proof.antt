@@ -1,7 +1,6 @@
 -- `process::fit::fits` meets its contract: each arm is a case of the definition.
 use borrow.Author.Needs.{needs}
-use mathlib.Core.Path.{sym, ap, _∙_}
-use Rattle.process.specs.Fits.{fitsIn, fits}
+use Rattle.process.specs.Fits.{fits}
 use Rattle.process.proofs.fit.fits.Statement.{statement}
 use Rattle.process.proofs.fit.fits.Tie as tie
 
@@ -28,27 +27,19 @@ enum-told-3 c = search needs
 
 returns : tie.Need-returns
 unfolding fits
-returns c =
-    let s = c .before .before .before in
-    c .fits-out .ensures ∙ ap (fitsIn (s .args .process .config .n) (s .args .process .round) (s .args .reply)) (sym (c .before .enum-told .given .1))
+returns c = rw (c .before .enum-told .given .1) (c .fits-out .ensures)
 
 returns-2 : tie.Need-returns-2
 unfolding fits
-returns-2 c =
-    let s = c .before .before .before .before in
-    c .fits-rdp .ensures ∙ ap (fitsIn (s .args .process .config .n) (s .args .process .round) (s .args .reply)) (sym (c .before .before .phase .given .1))
+returns-2 c = rw (c .before .before .phase .given .1) (c .fits-rdp .ensures)
 
 returns-3 : tie.Need-returns-3
 unfolding fits
-returns-3 c =
-    let s = c .before .before .before in
-    c .fits-cas .ensures ∙ ap (fitsIn (s .args .process .config .n) (s .args .process .round) (s .args .reply)) (sym (c .before .enum-told2 .given .1))
+returns-3 c = rw (c .before .enum-told2 .given .1) (c .fits-cas .ensures)
 
 returns-4 : tie.Need-returns-4
 unfolding fits
-returns-4 c =
-    let s = c .before .before in
-    ap (fitsIn (s .args .process .config .n) (s .args .process .round) (s .args .reply)) (sym (c .enum-told3 .given .1))
+returns-4 c = rw (c .enum-told3 .given .1)
 
 pub fits-spec : {M : Type 1} → statement M
 fits-spec =

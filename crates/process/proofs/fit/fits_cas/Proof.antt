@@ -21,17 +21,17 @@ is-round-decision-requires c κs = search needs
 returns : tie.Need-returns
 returns c =
     let s = c .before .before .before .before in
-    c .is-unused .ensures ∙ ap (fitsCas (s .args .n) (s .args .round) (s .args .reply .tuple)) (sym (c .before .enum-told .given .1))
+    c .is-unused .ensures ∙ ap (fitsCas (s .args .config) (s .args .round) (s .args .reply .tuple)) (sym (c .before .enum-told .given .1))
 
 returns-2 : tie.Need-returns-2
 returns-2 c =
     let s = c .before .before .before .before in
-    c .is-round-decision .ensures ∙ ap (fitsCas (s .args .n) (s .args .round) (s .args .reply .tuple)) (sym (c .before .enum-told2 .given .1))
+    c .is-round-decision .ensures ∙ ap (fitsCas (s .args .config) (s .args .round) (s .args .reply .tuple)) (sym (c .before .enum-told2 .given .1))
 
 returns-3 : tie.Need-returns-3
 returns-3 c =
     let s = c .before .before in
-    cas-else (s .args .n) (s .args .round) (s .args .reply .tuple) (s .args .reply .outcome) (c .match .keys3)
+    cas-else (s .args .config) (s .args .round) (s .args .reply .tuple) (s .args .reply .outcome) (c .match .keys3)
 
 pub fits-cas-spec : {M : Type 1} → statement M
 fits-cas-spec =

@@ -21,17 +21,17 @@ is-asked-proposal-requires c κs = search needs
 returns : tie.Need-returns
 returns c =
     let s = c .before .before .before .before in
-    c .is-unused .ensures ∙ ap (fitsRdp (s .args .round) (s .args .asked) (s .args .reply .tuple)) (sym (c .before .enum-told .given .1))
+    c .is-unused .ensures ∙ ap (fitsRdp (s .args .config) (s .args .round) (s .args .asked) (s .args .reply .tuple)) (sym (c .before .enum-told .given .1))
 
 returns-2 : tie.Need-returns-2
 returns-2 c =
     let s = c .before .before .before .before in
-    c .is-asked-proposal .ensures ∙ ap (fitsRdp (s .args .round) (s .args .asked) (s .args .reply .tuple)) (sym (c .before .enum-told2 .given .1))
+    c .is-asked-proposal .ensures ∙ ap (fitsRdp (s .args .config) (s .args .round) (s .args .asked) (s .args .reply .tuple)) (sym (c .before .enum-told2 .given .1))
 
 returns-3 : tie.Need-returns-3
 returns-3 c =
     let s = c .before .before in
-    rdp-else (s .args .round) (s .args .asked) (s .args .reply .tuple) (s .args .reply .outcome) (c .match .keys3)
+    rdp-else (s .args .config) (s .args .round) (s .args .asked) (s .args .reply .tuple) (s .args .reply .outcome) (c .match .keys3)
 
 pub fits-rdp-spec : {M : Type 1} → statement M
 fits-rdp-spec =

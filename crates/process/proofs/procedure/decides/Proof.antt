@@ -1,4 +1,4 @@
--- `process::procedure::decides` meets its contract: a code in range means an offset.
+-- `process::procedure::decides` meets its contract: what may be decided is an offset's code.
 use borrow.Author.Needs.{needs}
 use mathlib.Core.Path.{sym, _∙_}
 use Rattle.process.proofs.OffsetSteps.{decoded-some, decoded-none}
@@ -20,7 +20,7 @@ refused-requires c κs = search needs
 returns : tie.Need-returns
 returns c =
     let d = c .before .before .before in
-    absurd (decoded-none (d .before .args .code) (d .before .pre) _ (sym (d .decode .ensures) ∙ c .before .enum-told .given .1))
+    absurd (decoded-none (d .before .args .process .config) (d .before .args .code) (d .before .pre) _ (sym (d .decode .ensures) ∙ c .before .enum-told .given .1))
 
 turned-requires : tie.Need-turned-requires
 turned-requires c κs = search needs
@@ -33,7 +33,7 @@ returns-2 c =
     let o = c .before .before .before in
     let d = o .before .before in
     rw
-    (c .blank .ensures, c .before .turned .ensures, decoded-some (d .before .args .code) (d .before .pre) (o .offset .given .0 .0) (sym (d .decode .ensures) ∙ o .offset .given .1))
+    (c .blank .ensures, c .before .turned .ensures, decoded-some (d .before .args .process .config) (d .before .args .code) (d .before .pre) (o .offset .given .0 .0) (sym (d .decode .ensures) ∙ o .offset .given .1))
 
 pub decides-spec : {M : Type 1} → statement M
 decides-spec =

@@ -1,16 +1,17 @@
 -- `process::start` meets its contract: its tests are the definition's.
 use borrow.Author.Needs.{needs}
-use mathlib.Core.Path.{_≡_, sym, ap, _∙_}
+use mathlib.Core.Path.{_≡_, sym, _∙_}
 use mathlib.Core.Bool.{true}
 use borrow.Author.Tests.{lt-ltb, le-ltb, not-true, not-false}
 use Rattle.process.specs.Asks.{outCall}
-use Rattle.process.specs.Procedure.{started}
-use Rattle.process.specs.States.{startable, known}
-use Rattle.process.proofs.OffsetSteps.{coded-proposable, coded-beyond, coded-bottom}
-use Rattle.space.specs.Configs.{rounds}
+use Rattle.process.specs.Procedure.{proposable, started}
+use Rattle.process.specs.States.{startable}
+use Rattle.process.proofs.OffsetSteps.{coded-proposable, coded-beyond}
+use Rattle.space.specs.Bounds.{rounds}
+use Rattle.space.specs.Configs.{known}
 use Rattle.space.specs.Shapes.{inRounds}
 use Rattle.tuple.specs.declared.offset.Coded.the-variants.{Code}
-use Rattle.tuple.specs.Offsets.{codedOf}
+use Rattle.tuple.specs.Offsets.{codeOf, codedOf}
 use Rattle.process.proofs.procedure.start.Statement.{statement}
 use Rattle.process.proofs.procedure.start.Tie as tie
 
@@ -29,7 +30,7 @@ able : (c : tie.Else1) → startable (c .before .before .args .config) ≡ true
 able c = sym (c .before .startable .ensures) ∙ not-false _ (c .if1 .left)
 
 member : (c : tie.Else2) → let a = c .before .before .before .before .args in known (a .config) (a .process) ≡ true
-member c = sym (c .before .known .ensures) ∙ not-false _ (c .if2 .left)
+member c = sym (c .before .knows .ensures) ∙ not-false _ (c .if2 .left)
 
 in-rounds : (c : tie.Else3) → inRounds (c .before .before .before .before .before .args .round) ≡ true
 in-rounds c = lt-ltb _ rounds (c .if3 .left)
@@ -37,8 +38,8 @@ in-rounds c = lt-ltb _ rounds (c .if3 .left)
 coded : (c : tie.After-known-told) → codedOf (c .before .before .before .before .before .before .before .before .before .args .offset) ≡ Code (c .before .code .given .0 .0)
 coded c = sym (c .before .before .before .encode .ensures) ∙ c .before .code .given .1
 
-known-requires : tie.Need-known-requires
-known-requires c κs = search needs
+knows-requires : tie.Need-knows-requires
+knows-requires c κs = search needs
 
 unstarted-requires-2 : tie.Need-unstarted-requires-2
 unstarted-requires-2 c κs = search needs
@@ -47,7 +48,7 @@ returns-2 : tie.Need-returns-2
 unfolding started
 returns-2 c =
     let k = c .before .before in
-    c .unstarted2 .ensures ∙ sym (rw (able (k .before), sym (k .known .ensures) ∙ not-true _ (c .before .if2 .taken)))
+    c .unstarted2 .ensures ∙ sym (rw (able (k .before), sym (k .knows .ensures) ∙ not-true _ (c .before .if2 .taken)))
 
 unstarted-requires-3 : tie.Need-unstarted-requires-3
 unstarted-requires-3 c κs = search needs
@@ -77,7 +78,18 @@ returns-4 c =
     let r = e .before in
     let m = r .before in
     c .unstarted4 .ensures
-    ∙ sym (rw (able (m .before .before), member m, in-rounds r, coded-beyond _ _ (sym (e .encode .ensures) ∙ c .before .enum-told .given .1)))
+    ∙ sym (rw (able (m .before .before), member m, in-rounds r, coded-beyond (m .before .before .before .before .args .config) _ _ (sym (e .encode .ensures) ∙ c .before .enum-told .given .1)))
+
+offered-requires : tie.Need-offered-requires
+offered-requires c κs = search needs
+
+-- the number of its offset
+proposes : (c : tie.After-offered) → let a = c .before .before .before .before .before .before .before .before .before .before .args in
+    (proposable (a .config) (a .offset) ≡ c .offered .result) × (codeOf (a .offset) ≡ c .before .before .code .given .0 .0)
+proposes c =
+    let a = c .before .before .before .before .before .before .before .before .before .before .args in
+    let same = coded-proposable (a .config) (a .offset) _ (coded (c .before)) in
+    (same .0 ∙ sym (c .offered .ensures), same .1)
 
 unstarted-requires-5 : tie.Need-unstarted-requires-5
 unstarted-requires-5 c κs = search needs
@@ -85,10 +97,10 @@ unstarted-requires-5 c κs = search needs
 returns-5 : tie.Need-returns-5
 unfolding started
 returns-5 c =
-    let k = c .before .before in
-    let r = k .before .before .before .before in
+    let o = c .before .before in
+    let r = o .before .before .before .before .before in
     let m = r .before in
-    c .unstarted5 .ensures ∙ sym (rw (able (m .before .before), member m, in-rounds r, coded-bottom _ (coded k ∙ ap Code (c .before .if4 .taken))))
+    c .unstarted5 .ensures ∙ sym (rw (able (m .before .before), member m, in-rounds r, proposes o .0 ∙ not-true _ (c .before .if4 .taken)))
 
 out-call-requires : tie.Need-out-call-requires
 out-call-requires c κs = search needs
@@ -96,13 +108,13 @@ out-call-requires c κs = search needs
 returns-6 : tie.Need-returns-6
 unfolding started
 returns-6 c =
-    let k = c .before .before in
-    let r = k .before .before .before .before in
+    let o = c .before .before in
+    let r = o .before .before .before .before .before in
     let m = r .before in
-    let offset = coded-proposable _ _ (coded k) (c .before .if4 .left) in
+    let offset = proposes o in
     let a = m .before .before .before .before .args in
-    let call : c .out-call .result ≡ outCall (a .process) (a .round) (k .before .code .given .0 .0) = c .out-call .ensures in
-    rw (call, able (m .before .before), member m, in-rounds r, offset .0, offset .1)
+    let call : c .out-call .result ≡ outCall (a .process) (a .round) (o .before .before .code .given .0 .0) = c .out-call .ensures in
+    rw (call, able (m .before .before), member m, in-rounds r, offset .0 ∙ not-false _ (c .before .if4 .left), offset .1)
 
 pub start-spec : {M : Type 1} → statement M
 start-spec =
@@ -111,7 +123,7 @@ start-spec =
     startable-requires
     unstarted-requires
     returns
-    known-requires
+    knows-requires
     unstarted-requires-2
     returns-2
     unstarted-requires-3
@@ -121,6 +133,7 @@ start-spec =
     enum-told
     unstarted-requires-4
     returns-4
+    offered-requires
     unstarted-requires-5
     returns-5
     out-call-requires

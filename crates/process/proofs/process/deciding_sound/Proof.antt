@@ -16,7 +16,7 @@ unfolding decidingSound
 returns c = rw (sym (c .before .found-sound .ensures) ∙ not-true _ (c .if1 .taken))
 
 -- the test that was passed
-codes : (c : tie.Else1) → let a = c .before .before .args in foundSound (a .config .n) (a .found) ≡ true
+codes : (c : tie.Else1) → let a = c .before .before .args in foundSound (a .config) (a .config .n) (a .found) ≡ true
 codes c = sym (c .before .found-sound .ensures) ∙ not-false _ (c .if1 .left)
 
 settled-requires : tie.Need-settled-requires

@@ -9,22 +9,22 @@ use borrow.Author.Tests.{not-true, not-false}
 use Rattle.process.specs.States.{foundSound}
 use Rattle.process.proofs.Lengths.{all-places}
 use Rattle.process.proofs.StateSteps.{found-more, found-stop, found-end}
-use Rattle.space.specs.Configs.{processes}
+use Rattle.space.specs.Bounds.{processes}
 use Rattle.process.proofs.process.found_sound.Statement.{statement}
 use Rattle.process.proofs.process.found_sound.Tie as tie
 
 abbrev Inv-loop : tie.InvT-loop
-Inv-loop n found i₀ i = (i ≤ processes) × (foundSound (n - i) (drop i found) ≡ foundSound n found)
+Inv-loop config n found i₀ i = (i ≤ processes) × (foundSound config (n - i) (drop i found) ≡ foundSound config n found)
 
 abbrev μ-loop : tie.MeasureT-loop
-μ-loop n found i₀ i = processes - i
+μ-loop config n found i₀ i = processes - i
 
 loop-holds : tie.Need-loop-holds Inv-loop μ-loop
-loop-holds c = (omega arith, ap (λ (k : ℕ). foundSound k (c .args .t1)) (omega arith))
+loop-holds c = (omega arith, ap (λ (k : ℕ). foundSound (c .args .config) k (c .args .t2)) (omega arith))
 
 -- in a turn the place stands in the array
-inside : (c : tie.In-loop Inv-loop μ-loop) → c .before .loop .i < length (c .before .before .args .t1)
-inside c = omega (arith, all-places (c .before .before .args .t1) _ (c .before .before .good .0))
+inside : (c : tie.In-loop Inv-loop μ-loop) → c .before .loop .i < length (c .before .before .args .t2)
+inside c = omega (arith, all-places (c .before .before .args .t2) _ (c .before .before .good .1 .0))
 
 mul-code-sound : tie.Need-mul-code-sound Inv-loop μ-loop
 mul-code-sound c = search needs
@@ -39,7 +39,7 @@ returns : tie.Need-returns Inv-loop μ-loop
 returns c =
     let b = c .before in
     let l = b .before .before in
-    found-stop (l .before .args .n) (l .before .args .t1) (l .loop .i) (inside (b .before)) (sym (b .code-sound .ensures) ∙ not-true _ (c .if1 .taken)) ∙ l .loop .inv .1
+    found-stop (l .before .args .config) (l .before .args .n) (l .before .args .t2) (l .loop .i) (inside (b .before)) (sym (b .code-sound .ensures) ∙ not-true _ (c .if1 .taken)) ∙ l .loop .inv .1
 
 add-i : tie.Need-add-i Inv-loop μ-loop
 add-i c = search needs
@@ -52,15 +52,15 @@ loop-again c =
     let b = c .before in
     let l = b .before .before in (
       omega arith,
-      found-more (l .before .args .n) (l .before .args .t1) (l .loop .i) (inside (b .before)) (sym (b .code-sound .ensures) ∙ not-false _ (c .if1 .left)) ∙ l .loop .inv .1,
+      found-more (l .before .args .config) (l .before .args .n) (l .before .args .t2) (l .loop .i) (inside (b .before)) (sym (b .code-sound .ensures) ∙ not-false _ (c .if1 .left)) ∙ l .loop .inv .1,
     )
 
 returns-2 : tie.Need-returns-2 Inv-loop μ-loop
 returns-2 c =
     let l = c .before in
     let a = l .before .args in
-    let none : drop (l .loop .i) (a .t1) ≡ [] = drop-of-length-le (a .t1) {i = l .loop .i} (omega (arith, all-places (a .t1) _ (l .before .good .0))) in
-    sym (found-end (a .n - l .loop .i)) ∙ ap (foundSound (a .n - l .loop .i)) (sym none) ∙ l .loop .inv .1
+    let none : drop (l .loop .i) (a .t2) ≡ [] = drop-of-length-le (a .t2) {i = l .loop .i} (omega (arith, all-places (a .t2) _ (l .before .good .1 .0))) in
+    sym (found-end (a .config) (a .n - l .loop .i)) ∙ ap (foundSound (a .config) (a .n - l .loop .i)) (sym none) ∙ l .loop .inv .1
 
 pub found-sound-spec : {M : Type 1} → statement M
 found-sound-spec =

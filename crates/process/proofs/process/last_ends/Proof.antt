@@ -6,7 +6,7 @@ use native.Mathlib.Omega.{arith}
 use borrow.Author.Tests.{not-true, not-false}
 use Rattle.process.specs.States.{lastEnds}
 use Rattle.process.proofs.StateSteps.{sound-range, last-here, last-more, last-none}
-use Rattle.space.specs.Configs.{processes}
+use Rattle.space.specs.Bounds.{processes}
 use Rattle.process.proofs.process.last_ends.Statement.{statement}
 use Rattle.process.proofs.process.last_ends.Tie as tie
 
@@ -19,7 +19,7 @@ abbrev μ-loop : tie.MeasureT-loop
 loop-holds : tie.Need-loop-holds Inv-loop μ-loop
 loop-holds c = (omega arith, refl)
 
--- the places are those of at most 15 processes
+-- there is a place for each of the processes
 range : (c : tie.In-loop Inv-loop μ-loop) → let config = c .before .before .args .config in (config .n ≤ processes) × (config .t ≤ config .n)
 range c = sound-range (c .before .before .args .config) (c .before .before .pre)
 

@@ -29,6 +29,9 @@ enum-known-phase-2 c = search needs
 found-sound-requires-2 : tie.Need-found-sound-requires-2
 found-sound-requires-2 c κs = search needs
 
+decidable-requires : tie.Need-decidable-requires
+decidable-requires c κs = search needs
+
 returns : tie.Need-returns
 returns c =
     let a = c .before .before .before .args in c .found-sound .ensures ∙ ap (phaseSound (a .config) (a .found)) (sym (c .before .enum-told .given .1))
@@ -44,8 +47,10 @@ returns-3 c =
 
 returns-4 : tie.Need-returns-4
 returns-4 c =
-    let a = c .before .before .before .before .before .args in
-    sym (ap (phaseSound (a .config) (a .found)) (c .before .before .before .phase2 .given .1) ∙ rw (sym (c .before .found-sound2 .ensures) ∙ c .if1 .taken))
+    let t = c .before in
+    let a = t .before .before .before .before .before .args in
+    c .decidable .ensures
+    ∙ sym (ap (phaseSound (a .config) (a .found)) (t .before .before .before .phase2 .given .1) ∙ rw (sym (t .before .found-sound2 .ensures) ∙ t .if1 .taken))
 
 returns-5 : tie.Need-returns-5
 returns-5 c =
@@ -64,6 +69,7 @@ phase-sound-spec =
     deciding-sound-requires
     enum-known-phase-2
     found-sound-requires-2
+    decidable-requires
     returns
     returns-2
     returns-3

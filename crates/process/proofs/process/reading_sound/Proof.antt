@@ -5,10 +5,11 @@ use mathlib.Core.Bool.{true}
 use Prim.Native.Nat.{_≤_}
 use native.Mathlib.Omega.{arith}
 use borrow.Author.Tests.{eq-eqb, ne-eqb, not-true, not-false}
-use Rattle.process.specs.States.{known, foundSound, readingSound}
+use Rattle.process.specs.States.{foundSound, readingSound}
 use Rattle.process.proofs.StateLaws.{known-rule}
 use Rattle.process.proofs.StateSteps.{sound-range}
-use Rattle.space.specs.Configs.{processes}
+use Rattle.space.specs.Bounds.{processes}
+use Rattle.space.specs.Configs.{known}
 use Rattle.process.proofs.process.reading_sound.Statement.{statement}
 use Rattle.process.proofs.process.reading_sound.Tie as tie
 
@@ -20,11 +21,11 @@ unfolding readingSound
 returns c = rw (sym (c .before .found-sound .ensures) ∙ not-true _ (c .if1 .taken))
 
 -- the tests that were passed
-codes : (c : tie.Else1) → let a = c .before .before .args in foundSound (a .config .n) (a .t2) ≡ true
+codes : (c : tie.Else1) → let a = c .before .before .args in foundSound (a .config) (a .config .n) (a .t2) ≡ true
 codes c = sym (c .before .found-sound .ensures) ∙ not-false _ (c .if1 .left)
 
 member : (c : tie.Else2) → let a = c .before .before .before .before .args in known (a .config) (a .asked) ≡ true
-member c = sym (c .before .known .ensures) ∙ not-false _ (c .if2 .left)
+member c = sym (c .before .knows .ensures) ∙ not-false _ (c .if2 .left)
 
 -- the place of the process asked
 place : (c : tie.Else2) → let a = c .before .before .before .before .args in (1 ≤ a .asked) × (a .asked ≤ processes)
@@ -34,12 +35,12 @@ place c =
     let few = sound-range (s .args .config) (s .pre) in
     (asked .0, omega arith)
 
-known-requires : tie.Need-known-requires
-known-requires c κs = search needs
+knows-requires : tie.Need-knows-requires
+knows-requires c κs = search needs
 
 returns-2 : tie.Need-returns-2
 unfolding readingSound
-returns-2 c = rw (codes (c .before .before), sym (c .before .known .ensures) ∙ not-true _ (c .if2 .taken))
+returns-2 c = rw (codes (c .before .before), sym (c .before .knows .ensures) ∙ not-true _ (c .if2 .taken))
 
 sub-if3 : tie.Need-sub-if3
 sub-if3 c = place c .0
@@ -69,7 +70,7 @@ reading-sound-spec =
     (tie.spec
     found-sound-requires
     returns
-    known-requires
+    knows-requires
     returns-2
     sub-if3
     mul-if3

@@ -7,7 +7,7 @@ use lib.ListN.{length, drop}
 use Rattle.process.specs.Tallies.{backedOf, backed}
 use Rattle.process.proofs.Lengths.{all-places}
 use Rattle.process.proofs.TallySteps.{backed-here, backed-more, backed-end}
-use Rattle.space.specs.Configs.{processes}
+use Rattle.space.specs.Bounds.{processes}
 use Rattle.process.proofs.tally.backed.Statement.{statement}
 use Rattle.process.proofs.tally.backed.Tie as tie
 

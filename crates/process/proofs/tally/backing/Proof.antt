@@ -8,7 +8,7 @@ use lib.ListN.{length, drop, getD}
 use Rattle.process.specs.Tallies.{backing}
 use Rattle.process.proofs.Lengths.{all-places}
 use Rattle.process.proofs.TallySteps.{one-most, backing-step, backing-end}
-use Rattle.space.specs.Configs.{processes}
+use Rattle.space.specs.Bounds.{processes}
 use Rattle.process.proofs.tally.backing.Statement.{statement}
 use Rattle.process.proofs.tally.backing.Tie as tie
 

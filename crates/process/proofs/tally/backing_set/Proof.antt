@@ -7,7 +7,7 @@ use lib.ListN.{length, drop, getD, length-drop}
 use Rattle.process.specs.Tallies.{backingSet}
 use Rattle.process.proofs.Lengths.{all-places}
 use Rattle.process.proofs.TallySteps.{one-most, set-most, set-step, set-end}
-use Rattle.space.specs.Configs.{processes}
+use Rattle.space.specs.Bounds.{processes}
 use Rattle.process.proofs.tally.backing_set.Statement.{statement}
 use Rattle.process.proofs.tally.backing_set.Tie as tie
 
@@ -35,8 +35,8 @@ array-read-bit c = search needs
 bit-requires : tie.Need-bit-requires Inv-loop μ-loop
 bit-requires c κs = search needs
 
--- what is passed is a set of at most 15 bits
-small : (c : tie.After-bit Inv-loop μ-loop) → c .bit .result + 2 * c .before .before .loop .set < 2 ^ 16
+-- what is passed is a set of one bit for each process
+small : (c : tie.After-bit Inv-loop μ-loop) → c .bit .result + 2 * c .before .before .loop .set < 2 ^ (processes + 1)
 small c =
     let l = c .before .before in
     let a = l .before .args in

@@ -6,10 +6,10 @@ use Rattle.rounds.proofs.cases.full.Statement.{statement}
 use Rattle.rounds.proofs.cases.full.Tie as tie
 
 abbrev Inv-loop : tie.InvT-loop
-Inv-loop config board₀ round₀ board round = round ≤ 8
+Inv-loop offsets config space₀ round₀ space round = round ≤ 8
 
 abbrev μ-loop : tie.MeasureT-loop
-μ-loop config board₀ round₀ board round = 8 - round
+μ-loop offsets config space₀ round₀ space round = 8 - round
 
 slice-aggregate-begin : tie.Need-slice-aggregate-begin Inv-loop μ-loop
 slice-aggregate-begin c = search needs
@@ -17,17 +17,17 @@ slice-aggregate-begin c = search needs
 begin-requires : tie.Need-begin-requires Inv-loop μ-loop
 begin-requires c κs = search needs
 
-open-requires : tie.Need-open-requires Inv-loop μ-loop
-open-requires c κs = search needs
-
 loop-holds : tie.Need-loop-holds Inv-loop μ-loop
 loop-holds c = omega arith
 
-spread-requires : tie.Need-spread-requires Inv-loop μ-loop
-spread-requires c κs = search needs
+add-started : tie.Need-add-started Inv-loop μ-loop
+add-started c = search needs
 
-take-round-requires : tie.Need-take-round-requires Inv-loop μ-loop
-take-round-requires c κs = search needs
+started-requires : tie.Need-started-requires Inv-loop μ-loop
+started-requires c κs = search needs
+
+take-passes-requires : tie.Need-take-passes-requires Inv-loop μ-loop
+take-passes-requires c κs = search needs
 
 add-round : tie.Need-add-round Inv-loop μ-loop
 add-round c = omega arith
@@ -49,10 +49,10 @@ full-spec =
     μ-loop
     slice-aggregate-begin
     begin-requires
-    open-requires
     loop-holds
-    spread-requires
-    take-round-requires
+    add-started
+    started-requires
+    take-passes-requires
     add-round
     loop-less
     loop-again

@@ -2,32 +2,33 @@
 use borrow.Author.Needs.{needs}
 use Prim.Native.Nat.{_-_, _≤_}
 use native.Mathlib.Omega.{arith}
+use Rattle.space.specs.Bounds.{processes}
 use Rattle.rounds.proofs.schedule.take_pass.Statement.{statement}
 use Rattle.rounds.proofs.schedule.take_pass.Tie as tie
 
 abbrev Inv-loop : tie.InvT-loop
-Inv-loop pass space₀ members₀ i₀ space members i = i ≤ 15
+Inv-loop space₀ steps₀ i₀ space steps i = i ≤ processes
 
 abbrev μ-loop : tie.MeasureT-loop
-μ-loop pass space₀ members₀ i₀ space members i = 15 - i
+μ-loop space₀ steps₀ i₀ space steps i = processes - i
 
 loop-holds : tie.Need-loop-holds Inv-loop μ-loop
 loop-holds c = omega arith
 
-mul-member : tie.Need-mul-member Inv-loop μ-loop
-mul-member c = search needs
+mul-step : tie.Need-mul-step Inv-loop μ-loop
+mul-step c = search needs
 
-array-copy-out-member : tie.Need-array-copy-out-member Inv-loop μ-loop
-array-copy-out-member c = search needs
+array-copy-out-step : tie.Need-array-copy-out-step Inv-loop μ-loop
+array-copy-out-step c = search needs
 
 take-turn-requires : tie.Need-take-turn-requires Inv-loop μ-loop
 take-turn-requires c κs = search needs
 
-mul-members : tie.Need-mul-members Inv-loop μ-loop
-mul-members c = search needs
+mul-steps : tie.Need-mul-steps Inv-loop μ-loop
+mul-steps c = search needs
 
-array-set-from-members : tie.Need-array-set-from-members Inv-loop μ-loop
-array-set-from-members c = search needs
+array-set-from-steps : tie.Need-array-set-from-steps Inv-loop μ-loop
+array-set-from-steps c = search needs
 
 add-i : tie.Need-add-i Inv-loop μ-loop
 add-i c = omega arith
@@ -48,11 +49,11 @@ take-pass-spec =
     Inv-loop
     μ-loop
     loop-holds
-    mul-member
-    array-copy-out-member
+    mul-step
+    array-copy-out-step
     take-turn-requires
-    mul-members
-    array-set-from-members
+    mul-steps
+    array-set-from-steps
     add-i
     loop-less
     loop-again

@@ -10,7 +10,7 @@ use Rattle.script.specs.declared.run.Printed.the-variants.{Length}
 use Rattle.script.specs.Printing.{text, textBytes, printedOf, leftOf}
 use Rattle.script.proofs.RecordLaws.{bytes-of}
 use Rattle.script.proofs.RoomLaws.{text-room}
-use Rattle.script.proofs.Stores.{whole-text}
+use Rattle.text.proofs.PlaceLaws.{whole-text}
 use Rattle.script.proofs.run.print.Statement.{statement}
 use Rattle.script.proofs.run.print.Tie as tie
 

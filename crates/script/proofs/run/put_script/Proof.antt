@@ -1,26 +1,28 @@
 -- `script::run::put_script` meets its contract: the single line of a refusal, or what the set-up opens.
 use borrow.Author.Needs.{needs}
 use mathlib.Core.Path.{_≡_, sym, ap, _∙_}
-use Prim.Native.Nat.{_≤_}
+use Prim.Native.Nat.{ℕ}
 use native.Mathlib.Omega.{arith}
+use mathlib.Core.List.{List}
 use lib.ListN.{length}
 use lib.Seq.{sets}
-use Rattle.script.specs.Printing.{opened, text, textBytes}
-use Rattle.script.specs.Texts.{refusedLine}
+use Rattle.script.specs.Printing.{opened, text}
 use Rattle.script.proofs.RecordLaws.{bytes-of}
 use Rattle.script.proofs.RoomLaws.{text-room}
 use Rattle.script.proofs.ScriptLaws.{text-long, text-refused, text-opened}
-use Rattle.script.proofs.Stores.{wrote-as, from-start}
-use Rattle.varint.specs.Laws.{Bytes}
+use Rattle.text.specs.Places.{behind}
+use Rattle.text.specs.Texts.{refusedLine}
+use Rattle.varint.specs.Reading.{Bytes}
 use Rattle.script.proofs.run.put_script.Statement.{statement}
 use Rattle.script.proofs.run.put_script.Tie as tie
 
--- the script is bytes, so that its text has room
+-- the script is bytes, so that its text ends before the largest place
 script-bytes : (c : tie.After-shared-slice-known) → Bytes (c .before .before .args .script .now)
 script-bytes c = bytes-of (c .before .before .args .script .now) (λ i. omega (arith, c .shared-slice-known .given i))
 
-room : (c : tie.After-shared-slice-known) → length (text (c .before .before .args .script .now)) ≤ textBytes
-room c = text-room (c .before .before .args .script .now) (script-bytes c)
+whole : {t : List ℕ} {next : ℕ} (c : tie.After-shared-slice-known) → let s = c .before .before .args .script .now in
+    text s ≡ t → next ≡ behind 0 (length t) → next ≡ length (text s)
+whole c same placed = omega (arith, ap length same, placed, text-room (c .before .before .args .script .now) (script-bytes c))
 
 -- by what was read of the set-up
 opens : (c : tie.After-next) → let r = c .before .before .before in let s = c .before .before .before .before .before .before .before .args .script .now in text s ≡ opened (r .read-config .result .config) s (c .next .given .0 .0 .at)
@@ -34,7 +36,7 @@ refuses c =
     text-refused (c .before .before .before .before .before .before .before .args .script .now) (omega (arith, r .before .if1 .left)) (r .read-config .result) (r .read-config .ensures) (c .next2 .given .0 .0) (c .next2 .given .1)
 
 put-refused-requires : tie.Need-put-refused-requires
-put-refused-requires c κs = let k = c .before .before in omega (arith, ap length (text-long (k .before .before .args .script .now) (omega (arith, c .before .if1 .taken))), room k)
+put-refused-requires c κs = search needs
 
 same-length : tie.Need-same-length
 same-length c = search needs
@@ -44,7 +46,8 @@ returns c =
     let q = c .before .before in
     let i = q .before .before in
     let a = i .before .before .before .args in
-    from-start (a .out .now) (text (a .script .now)) (wrote-as (a .out .now) 0 (sym (text-long (a .script .now) (omega (arith, i .if1 .taken)))) (q .put-refused .ensures))
+    let long = text-long (a .script .now) (omega (arith, i .if1 .taken)) in
+    (whole (i .before) long (q .put-refused .ensures .0), q .put-refused .ensures .1 ∙ ap (sets (a .out .now) 0) (sym long))
 
 read-config-requires : tie.Need-read-config-requires
 read-config-requires c κs = search needs
@@ -53,17 +56,13 @@ enum-known-next : tie.Need-enum-known-next
 enum-known-next c = search needs
 
 put-opened-requires : tie.Need-put-opened-requires
-put-opened-requires c κs =
-    let n = c .before .before in
-    let k = n .before .before .before .before .before in
-    (script-bytes k, omega (arith, ap length (opens n), room k))
+put-opened-requires c κs = script-bytes (c .before .before .before .before .before .before .before)
 
 enum-known-next-2 : tie.Need-enum-known-next-2
 enum-known-next-2 c = search needs
 
 put-refused-requires-2 : tie.Need-put-refused-requires-2
-put-refused-requires-2 c κs =
-    let n = c .before .before in omega (arith, ap length (refuses n), room (n .before .before .before .before .before))
+put-refused-requires-2 c κs = search needs
 
 same-length-2 : tie.Need-same-length-2
 same-length-2 c = search needs
@@ -72,8 +71,8 @@ returns-2 : tie.Need-returns-2
 returns-2 c =
     let q = c .before .before in
     let n = q .before .before .before in
-    let a = n .before .before .before .before .before .before .before .args in
-    (q .put-opened .ensures .0 ∙ ap length (sym (opens n)), q .put-opened .ensures .1 ∙ ap (sets (a .out .now) 0) (sym (opens n)))
+    let k = n .before .before .before .before .before in
+    (whole k (opens n) (q .put-opened .ensures .0), q .put-opened .ensures .1 ∙ ap (sets (k .before .before .args .out .now) 0) (sym (opens n)))
 
 same-length-3 : tie.Need-same-length-3
 same-length-3 c = search needs
@@ -82,8 +81,8 @@ returns-3 : tie.Need-returns-3
 returns-3 c =
     let q = c .before .before in
     let n = q .before .before .before in
-    let a = n .before .before .before .before .before .before .before .args in
-    from-start (a .out .now) (text (a .script .now)) (wrote-as (a .out .now) 0 (sym (refuses n)) (q .put-refused2 .ensures))
+    let k = n .before .before .before .before .before in
+    (whole k (refuses n) (q .put-refused2 .ensures .0), q .put-refused2 .ensures .1 ∙ ap (sets (k .before .before .args .out .now) 0) (sym (refuses n)))
 
 pub put-script-spec : {M : Type 1} → statement M
 put-script-spec =

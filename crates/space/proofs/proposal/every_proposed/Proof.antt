@@ -1,13 +1,12 @@
--- `space::proposal::every_proposed` meets its contract. The loop's invariant: the members struck off have proposed, so that those left decide.
+-- `space::every_proposed` meets its contract. The loop's invariant: the members struck off have proposed, so that those left decide.
 use borrow.Author.Needs.{needs}
 use mathlib.Core.Path.{_≡_, refl, sym, ap, _∙_}
-use Prim.Native.Nat.{ℕ, _-_, _≤_, _<_}
+use Prim.Native.Nat.{_-_, _≤_, _<_}
 use native.Mathlib.Omega.{arith}
-use mathlib.Core.Bool.{Bool}
 use mathlib.Core.List.{List}
-use lib.ListN.{length, take, drop}
-use Rattle.space.specs.Members.{every}
-use Rattle.space.specs.Proposals.{proposedIn}
+use lib.ListN.{length, drop}
+use Rattle.space.specs.Proposals.{proposed, everyProposed}
+use Rattle.space.specs.Spaces.{held}
 use Rattle.space.proofs.Lengths.{full}
 use Rattle.space.proofs.Strikes.{each-step}
 use Rattle.tuple.specs.declared.field.Tuple.{Tuple}
@@ -15,20 +14,22 @@ use Rattle.tuple.proofs.Lists.{drop-take-end}
 use Rattle.space.proofs.proposal.every_proposed.Statement.{statement}
 use Rattle.space.proofs.proposal.every_proposed.Tie as tie
 
--- whether a list gives every member of a set
-abbrev all : ℕ → ℕ → ℕ → ℕ → List Tuple → ℕ → Bool
-all round low high n tuples set = every (λ k. proposedIn tuples round k low high) n 1 set
-
 abbrev Inv-loop : tie.InvT-loop
-Inv-loop round set low high space count n rest₀ i₀ rest i =
-    (i ≤ count) × (all round low high n (drop i (take count (space .tuples))) rest ≡ all round low high n (take count (space .tuples)) set)
+Inv-loop sought round set space config count rest₀ i₀ rest i =
+    (i ≤ count) × (everyProposed (space .config) (drop i (held space)) sought round rest ≡ everyProposed (space .config) (held space) sought round set)
 
 abbrev μ-loop : tie.MeasureT-loop
-μ-loop round set low high space count n rest₀ i₀ rest i = count - i
+μ-loop sought round set space config count rest₀ i₀ rest i = count - i
 
--- in a turn the place stands in the array
-inside : (c : tie.In-loop Inv-loop μ-loop) → c .before .loop .i < length (c .before .before .args .t1 .tuples)
-inside c = omega (arith, full (c .before .before .args .t1) _ (c .before .before .good .0), c .before .before .pre)
+-- in a turn the place is one of a tuple that is held, and stands in the array
+below : (c : tie.In-loop Inv-loop μ-loop) → c .before .loop .i < c .before .before .before .before .args .t1 .count
+below c = omega arith
+
+inside : (c : tie.In-loop Inv-loop μ-loop) → c .before .loop .i < length (c .before .before .before .before .args .t1 .tuples)
+inside c = let s = c .before .before .before .before in omega (arith, full (s .args .t1) _ (s .good .0))
+
+least-requires : tie.Need-least-requires Inv-loop μ-loop
+least-requires c κs = search needs
 
 loop-holds : tie.Need-loop-holds Inv-loop μ-loop
 loop-holds c = (omega arith, refl)
@@ -49,12 +50,13 @@ loop-less : tie.Need-loop-less Inv-loop μ-loop
 loop-less c = omega arith
 
 loop-again : tie.Need-loop-again Inv-loop μ-loop
+unfolding everyProposed
 loop-again c =
     let t = c .before .before in
     let l = t .before in
-    let a = l .before .args in (
+    let a = l .before .before .before .args in (
       omega arith,
-      sym (each-step (a .round) (a .low) (a .high) (a .t1 .config .n) (a .t1 .count) (a .t1 .tuples) (l .loop .i) _ (t .loop-test .taken) (inside t) (l .loop .rest) _ (c .strike-proposer .ensures))
+      sym (each-step (a .t1 .config) (a .sought) (a .round) (a .t1 .count) (a .t1 .tuples) (l .loop .i) _ (below t) (inside t) (l .loop .rest) _ (c .strike-proposer .ensures))
           ∙ l .loop .inv .1,
     )
 
@@ -62,12 +64,14 @@ has-none-requires : tie.Need-has-none-requires Inv-loop μ-loop
 has-none-requires c κs = search needs
 
 returns : tie.Need-returns Inv-loop μ-loop
-unfolding proposedIn
+unfolding proposed everyProposed
 returns c =
     let l = c .before .before in
-    let a = l .before .args in
+    let s = l .before .before .before in
+    let a = s .args in
+    let none = drop-take-end (a .t1 .count) (a .t1 .tuples) (l .loop .i) (omega (arith, full (a .t1) _ (s .good .0))) in
     c .has-none .ensures
-    ∙ ap (λ (t : List Tuple). all (a .round) (a .low) (a .high) (a .t1 .config .n) t (l .loop .rest)) (sym (drop-take-end (a .t1 .count) (a .t1 .tuples) (l .loop .i) (omega arith)))
+    ∙ ap (λ (tuples : List Tuple). everyProposed (a .t1 .config) tuples (a .sought) (a .round) (l .loop .rest)) (sym none)
     ∙ l .loop .inv .1
 
 pub every-proposed-spec : {M : Type 1} → statement M
@@ -76,6 +80,7 @@ every-proposed-spec =
     (tie.spec
     Inv-loop
     μ-loop
+    least-requires
     loop-holds
     mul-tuple
     element-copy-out-tuple

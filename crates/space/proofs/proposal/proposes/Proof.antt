@@ -17,12 +17,15 @@ element-copy-out-fourth c = search needs
 is-proposal-requires : tie.Need-is-proposal-requires
 is-proposal-requires c κs = search needs
 
-all-five-requires : tie.Need-all-five-requires
-all-five-requires c κs = search needs
+is-sought-requires : tie.Need-is-sought-requires
+is-sought-requires c κs = search needs
+
+all-four-requires : tie.Need-all-four-requires
+all-four-requires c κs = search needs
 
 returns : tie.Need-returns
 unfolding proposes
-returns c = c .all-five .ensures ∙ cc (c .before .before .before .before .before .is-proposal .ensures)
+returns c = c .all-four .ensures ∙ cc (c .before .is-sought .ensures, c .before .before .before .before .is-proposal .ensures)
 
 pub proposes-spec : {M : Type 1} → statement M
 proposes-spec =
@@ -32,5 +35,6 @@ proposes-spec =
     element-copy-out-third
     element-copy-out-fourth
     is-proposal-requires
-    all-five-requires
+    is-sought-requires
+    all-four-requires
     returns)

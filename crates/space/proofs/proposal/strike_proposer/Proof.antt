@@ -3,14 +3,14 @@ use borrow.Author.Needs.{needs}
 use mathlib.Core.Path.{_≡_, sym, _∙_}
 use mathlib.Core.Bool.{false, and-false}
 use borrow.Author.Tests.{ne-eqb}
-use Rattle.space.specs.Proposals.{processOf, proposes}
-use Rattle.space.specs.Shapes.{roundOf}
+use Rattle.space.specs.Shapes.{processOf, roundOf}
+use Rattle.space.specs.Proposals.{proposes}
 use Rattle.space.proofs.proposal.strike_proposer.Statement.{statement}
 use Rattle.space.proofs.proposal.strike_proposer.Tie as tie
 
-other-round : (c : tie.Then1) → let a = c .before .before .before .before .args in proposes (a .round) (processOf (a .t1)) (a .low) (a .high) (a .t1) ≡ false
+other-round : (c : tie.Then1) → let a = c .before .before .before .before .args in proposes (a .config) (a .sought) (a .round) (processOf (a .t4)) (a .t4) ≡ false
 unfolding proposes
-other-round c = let a = c .before .before .before .before .args in rw (ne-eqb (roundOf (a .t1)) (a .round) (c .if1 .taken), and-false)
+other-round c = let a = c .before .before .before .before .args in rw (ne-eqb (roundOf (a .t4)) (a .round) (c .if1 .taken), and-false)
 
 element-copy-out-second : tie.Need-element-copy-out-second
 element-copy-out-second c = search needs

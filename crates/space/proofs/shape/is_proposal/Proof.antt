@@ -1,7 +1,8 @@
 -- `space::shape::is_proposal` meets its contract: its tests are the definition's.
 use borrow.Author.Needs.{needs}
 use mathlib.Core.Path.{_≡_, _∙_}
-use Rattle.space.specs.Shapes.{field, says, isProposal}
+use Rattle.tuple.specs.Shapes.{field, says}
+use Rattle.space.specs.Shapes.{isProposal}
 use Rattle.tuple.specs.Fields.{word, propose}
 use Rattle.space.proofs.shape.is_proposal.Statement.{statement}
 use Rattle.space.proofs.shape.is_proposal.Tie as tie

@@ -1,9 +1,10 @@
--- `space::space::empty` meets its contract: a blank tuple repeated 128 times.
+-- `space::space::empty` meets its contract: a blank tuple at each place.
 use borrow.Author.Needs.{needs}
 use mathlib.Core.Path.{ap}
 use lib.ListN.{replicate}
 use Rattle.space.specs.declared.space.Space.{Space}
 use Rattle.tuple.specs.declared.field.Tuple.{Tuple}
+use Rattle.tuple.specs.Bounds.{capacity}
 use Rattle.space.proofs.space.empty.Statement.{statement}
 use Rattle.space.proofs.space.empty.Tie as tie
 
@@ -11,7 +12,7 @@ blank-requires : tie.Need-blank-requires
 blank-requires c κs = search needs
 
 returns : tie.Need-returns
-returns c = ap {B = Space} (λ (tuple : Tuple). record { config = c .before .args .config; count = 0; tuples = replicate 128 tuple }) (c .blank .ensures)
+returns c = ap {B = Space} (λ (tuple : Tuple). record { config = c .before .args .config; count = 0; tuples = replicate capacity tuple }) (c .blank .ensures)
 
 pub empty-spec : {M : Type 1} → statement M
 empty-spec = tie.close (tie.spec blank-requires returns)

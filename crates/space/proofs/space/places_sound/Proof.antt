@@ -9,14 +9,15 @@ use borrow.Author.Tests.{not-true, not-false}
 use Rattle.space.specs.Spaces.{placesFrom}
 use Rattle.space.proofs.Lengths.{full}
 use Rattle.space.proofs.SpaceLaws.{sound-more, sound-stop, sound-end}
+use Rattle.tuple.specs.Bounds.{capacity}
 use Rattle.space.proofs.space.places_sound.Statement.{statement}
 use Rattle.space.proofs.space.places_sound.Tie as tie
 
 abbrev Inv-loop : tie.InvT-loop
-Inv-loop space count i₀ i = (i ≤ 128) × (placesFrom (count - i) (drop i (space .tuples)) ≡ placesFrom count (space .tuples))
+Inv-loop space count i₀ i = (i ≤ capacity) × (placesFrom (count - i) (drop i (space .tuples)) ≡ placesFrom count (space .tuples))
 
 abbrev μ-loop : tie.MeasureT-loop
-μ-loop space count i₀ i = 128 - i
+μ-loop space count i₀ i = capacity - i
 
 -- in a turn the place stands in the array
 inside : (c : tie.In-loop Inv-loop μ-loop) → c .before .loop .i < length (c .before .before .args .t1 .tuples)

@@ -3,9 +3,10 @@ use borrow.Author.Needs.{needs}
 use mathlib.Core.Path.{_≡_, sym, _∙_}
 use mathlib.Core.Bool.{true}
 use borrow.Author.Tests.{lt-ltb, le-ltb, not-true, not-false}
-use Rattle.process.specs.States.{startable, known, wellFormed}
+use Rattle.process.specs.States.{startable, wellFormed}
 use Rattle.process.proofs.StateSteps.{startable-sound}
-use Rattle.space.specs.Configs.{rounds}
+use Rattle.space.specs.Bounds.{rounds}
+use Rattle.space.specs.Configs.{known}
 use Rattle.process.proofs.process.Process.is_well_formed.Statement.{statement}
 use Rattle.process.proofs.process.Process.is_well_formed.Tie as tie
 
@@ -21,17 +22,17 @@ able : (c : tie.Else1) → startable (c .before .before .before .before .args .s
 able c = sym (c .before .startable .ensures) ∙ not-false _ (c .if1 .left)
 
 member : (c : tie.Else2) → let self = c .before .before .before .before .before .before .before .args .self in known (self .config) (self .process) ≡ true
-member c = sym (c .before .known .ensures) ∙ not-false _ (c .if2 .left)
+member c = sym (c .before .knows .ensures) ∙ not-false _ (c .if2 .left)
 
-cast-known : tie.Need-cast-known
-cast-known c = search needs
+cast-knows : tie.Need-cast-knows
+cast-knows c = search needs
 
-known-requires : tie.Need-known-requires
-known-requires c κs = search needs
+knows-requires : tie.Need-knows-requires
+knows-requires c κs = search needs
 
 returns-2 : tie.Need-returns-2
 unfolding wellFormed
-returns-2 c = rw (able (c .before .before .before), sym (c .before .known .ensures) ∙ not-true _ (c .if2 .taken))
+returns-2 c = rw (able (c .before .before .before), sym (c .before .knows .ensures) ∙ not-true _ (c .if2 .taken))
 
 returns-3 : tie.Need-returns-3
 unfolding wellFormed
@@ -53,8 +54,8 @@ is-well-formed-spec =
     (tie.spec
     startable-requires
     returns
-    cast-known
-    known-requires
+    cast-knows
+    knows-requires
     returns-2
     returns-3
     phase-sound-requires

@@ -10,7 +10,7 @@ use Rattle.record.specs.declared.reader.ReadNumber.{ReadNumber}
 use Rattle.record.specs.declared.reader.ReadTuple.{ReadTuple}
 use Rattle.record.specs.Reading.{noTuple, fieldsAt, tupleStep, countStep, tupleAt}
 use Rattle.tuple.specs.declared.field.Field.{Field}
-use Rattle.tuple.specs.Fields.{places}
+use Rattle.tuple.specs.Bounds.{places}
 use Rattle.record.proofs.Steps.{goes-on, stops}
 use Rattle.record.proofs.FieldsLaws.{Passed, passed-none, passed-more, passed-stop, passed-all}
 use Rattle.record.proofs.reader.Cursor.tuple.Statement.{statement}

@@ -1,7 +1,8 @@
 -- `space::Config::is_sound` meets its contract: its tests are the definition's.
 use Prim.Native.Nat.{_-_, _/_}
 use borrow.Author.Tests.{le-leb, lt-leb}
-use Rattle.space.specs.Configs.{processes, sound}
+use Rattle.space.specs.Bounds.{processes}
+use Rattle.space.specs.Configs.{sound}
 use Rattle.space.proofs.config.Config.is_sound.Statement.{statement}
 use Rattle.space.proofs.config.Config.is_sound.Tie as tie
 

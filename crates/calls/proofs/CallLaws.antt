@@ -1,0 +1,64 @@
+-- Refusal 7, refused calls and well-formed spaces: what a call answers and leaves, in document 01's words.
+use mathlib.Core.Path.{_≡_, refl, sym, ap}
+use native.Mathlib.Omega.{arith}
+use mathlib.Core.List.{List}
+use borrow.Author.Tests.{le-leb}
+use Rattle.calls.specs.declared.change.Change.{Change}
+use Rattle.calls.specs.declared.change.Change.the-variants.{Keep}
+use Rattle.calls.specs.declared.turn.Applied.{Applied}
+use Rattle.calls.specs.Changes.{carriedOut}
+use Rattle.calls.specs.Laws.{Denied, DeniedRule, Unchanged, Kept}
+use Rattle.calls.specs.Turns.{firstRefusal, judged, applied}
+use Rattle.calls.proofs.CallSteps.{Puts, Moves, moves, Steps, formed-bounded, steps}
+use Rattle.calls.proofs.RunSteps.{next, run-tidy, run-formed}
+use Rattle.policy.specs.Policies.{verdict}
+use Rattle.space.specs.declared.space.Space.{Space}
+use Rattle.space.specs.Configs.{known}
+use Rattle.space.specs.Spaces.{held}
+use Rattle.space.proofs.SpaceRules.{formed-sound, held-lawful}
+use Rattle.tuple.specs.declared.field.Tuple.{Tuple}
+use Rattle.tuple.specs.declared.field.Call.{Call}
+use Rattle.tuple.specs.declared.refusal.Refusal.{Refusal}
+use Rattle.tuple.specs.declared.reply.Outcome.{Outcome}
+use Rattle.tuple.specs.declared.reply.Outcome.the-variants.{Refused}
+use Rattle.tuple.specs.Refusals.{numberOf, refusal}
+
+-- a call that is obeyed is refused 8 or not at all, and refused it leaves the tuples
+moves-refused : {tuples : List Tuple} {call : Call} {how : Outcome} {change : Change} (why : Refusal) → Moves tuples call how change
+    → how ≡ Refused why → (why ≡ refusal 8) × (change ≡ Keep)
+moves-refused why (Moves.adds (Puts.by-out e) room) r = (cc, cc)
+moves-refused why (Moves.adds (Puts.by-cas e n) room) r = (cc, cc)
+moves-refused why (Moves.full p none) r = (cc, refl)
+moves-refused why (Moves.reads e) r = (cc, cc)
+moves-refused why Moves.lacks r = (cc, cc)
+moves-refused why Moves.keeps r = (cc, cc)
+moves-refused why (Moves.takes i e inside) r = (cc, cc)
+
+module _ (space : Space) (call : Call) where
+  steps-denied : {after : Applied} → Steps space call after → after .reply .outcome ≡ Refused (refusal 7) → Denied space call
+  steps-denied (Steps.refuses why low) r = let same : why ≡ refusal 7 = cc in absurd (omega (arith, rw same at low))
+  steps-denied (Steps.denies d) r = d
+  steps-denied (Steps.obeys formed sound known p) r =
+      let same = moves-refused (refusal 7) (moves (held space) call sound) r .0 in absurd (omega (arith, ap numberOf same))
+
+  steps-unchanged : {after : Applied} (why : Refusal) → Steps space call after → after .reply .outcome ≡ Refused why → after .space ≡ space
+  unfolding carriedOut
+  steps-unchanged why (Steps.refuses _ low) r = refl
+  steps-unchanged why (Steps.denies d) r = refl
+  steps-unchanged why (Steps.obeys formed sound known p) r =
+      ap (carriedOut space (call .entry)) (moves-refused why (moves (held space) call sound) r .1)
+
+pub denied-rule : DeniedRule
+unfolding applied judged firstRefusal verdict known
+denied-rule space call = (
+  steps-denied space call (steps space call),
+  λ d. rw (d .formed, formed-bounded space (d .formed), d .sound, le-leb 1 (call .process) (d .known .0), le-leb (call .process) (space .config .n) (d .known .1), d .forbidden),
+)
+
+pub unchanged : Unchanged
+unchanged space call why = steps-unchanged space call why (steps space call)
+
+pub kept : Kept
+kept space call tidy formed =
+    let run = next {call = call} (record { tuples = held space; lawful = held-lawful space formed; same = sym tidy }) .run in
+    (run-tidy run, run-formed (formed-sound space formed) run)

@@ -1,0 +1,12 @@
+pub mod Advances
+pub mod CallLaws
+pub mod CallSteps
+pub mod ChangeLaws
+pub mod DefaultLaws
+pub mod EffectLaws
+pub mod Effects
+pub mod Keys
+pub mod NeverFullLaws
+pub mod RunSteps
+pub mod SumLaws
+pub mod UncheckedLaws

@@ -1,0 +1,49 @@
+-- The laws of a call on a space, as claims over the definitions, in document 01's words.
+use mathlib.Core.Path.{_≡_}
+use mathlib.Core.Logic.{_↔_}
+use mathlib.Core.Bool.{true}
+use mathlib.Core.List.{List, [], _∷_, _++_}
+use Prim.Native.Nat.{ℕ, _≤_, _<_}
+use lib.ListN.{length}
+use Rattle.calls.specs.declared.change.Change.the-variants.{Append, Remove}
+use Rattle.calls.specs.Changes.{without, carriedOut}
+use Rattle.calls.specs.Turns.{applied}
+use Rattle.policy.specs.declared.verdicts.Verdict.the-variants.{Refuse}
+use Rattle.policy.specs.Policies.{verdictOn}
+use Rattle.space.specs.declared.config.Config.{Config}
+use Rattle.space.specs.declared.space.Space.{Space}
+use Rattle.space.specs.Spaces.{held, spaceOf, wellFormed, Tidy}
+use Rattle.tuple.specs.declared.fault.Fault.the-variants.{Absent}
+use Rattle.tuple.specs.declared.field.Tuple.{Tuple}
+use Rattle.tuple.specs.declared.field.Call.{Call}
+use Rattle.tuple.specs.declared.refusal.Refusal.{Refusal}
+use Rattle.tuple.specs.declared.reply.Outcome.the-variants.{Refused}
+use Rattle.tuple.specs.Bounds.{capacity}
+use Rattle.tuple.specs.Faults.{callFault}
+use Rattle.tuple.specs.Refusals.{refusal}
+
+-- what becomes of the tuples, carried out: out and an inserted cas append the entry, inp takes a tuple off and the rest keeps its order
+pub record CarriedRule (config : Config) (tuples : List Tuple) (entry : Tuple) : Type 0 where
+  pub append : length tuples < capacity → carriedOut (spaceOf config tuples) entry Append ≡ spaceOf config (tuples ++ (entry ∷ []))
+  pub remove : (i : ℕ) → i < length tuples → length tuples ≤ capacity → carriedOut (spaceOf config tuples) entry (Remove i) ≡ spaceOf config (without i tuples)
+
+abbrev pub CarriedRules : Type 0
+CarriedRules = (config : Config) (tuples : List Tuple) (entry : Tuple) → CarriedRule config tuples entry
+
+-- 7 comes exactly when no earlier refusal does and the policy doesn't permit the call
+pub record Denied (space : Space) (call : Call) : Type 0 where
+  pub formed : wellFormed space ≡ true
+  pub sound : callFault call ≡ Absent
+  pub known : (1 ≤ call .process) × (call .process ≤ space .config .n)
+  pub forbidden : verdictOn (space .config) (held space) call ≡ Refuse (refusal 7)
+
+abbrev pub DeniedRule : Type 0
+DeniedRule = (space : Space) (call : Call) → (applied space call .reply .outcome ≡ Refused (refusal 7)) ↔ Denied space call
+
+-- a refused call leaves the space as it was
+abbrev pub Unchanged : Type 0
+Unchanged = (space : Space) (call : Call) (why : Refusal) → applied space call .reply .outcome ≡ Refused why → applied space call .space ≡ space
+
+-- a call leaves of a well-formed space that is the one of its tuples such a space again
+abbrev pub Kept : Type 0
+Kept = (space : Space) (call : Call) → Tidy space → wellFormed space ≡ true → Tidy (applied space call .space) × (wellFormed (applied space call .space) ≡ true)

@@ -1,0 +1,6 @@
+pub mod Changes
+pub mod Counts
+pub mod Effects
+pub mod Laws
+pub mod RunLaws
+pub mod Turns

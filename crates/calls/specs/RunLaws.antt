@@ -1,0 +1,97 @@
+-- The laws of lists of calls from a fresh space, as claims over the definitions.
+use mathlib.Core.Path.{_≡_}
+use mathlib.Core.Bool.{true}
+use mathlib.Core.List.{List, _∷_, _++_, List·Memᴰ}
+use mathlib.Core.Logic.{_⊎_}
+use Prim.Native.Nat.{ℕ, _+_, _≤_, _<_}
+use lib.ListN.{length, getD}
+use Rattle.calls.specs.Counts.{additions, removals}
+use Rattle.calls.specs.Turns.{Turn, applied, turns, uncheckedFrom, last}
+use Rattle.policy.specs.declared.verdicts.Verdict.the-variants.{Permit}
+use Rattle.policy.specs.Policies.{verdictOn}
+use Rattle.policy.specs.Shapes.{isDecision}
+use Rattle.space.specs.declared.config.Config.{Config}
+use Rattle.space.specs.Configs.{sound}
+use Rattle.space.specs.Shapes.{roundOf, isProposal, processOf}
+use Rattle.space.specs.Spaces.{held, freshOf}
+use Rattle.tuple.specs.declared.field.Tuple.{Tuple}
+use Rattle.tuple.specs.declared.field.Call.{Call}
+use Rattle.tuple.specs.declared.reply.Outcome.the-variants.{Done, Inserted, Refused}
+use Rattle.tuple.specs.Fields.{out, inp, cas, blankTuple}
+use Rattle.tuple.specs.Refusals.{refusal}
+
+-- without the test of each place, calls from a fresh space make the same turns
+abbrev pub Unchecked : Type 0
+Unchecked = (config : Config) (calls : List Call) → uncheckedFrom (freshOf config .space) calls ≡ turns config calls
+
+-- under every policy: tuples held = done outs + inserted cas calls - inp calls that found
+abbrev pub SumRule : Type 0
+SumRule =
+    (config : Config) (calls : List Call)
+    → sound config ≡ true
+    → length (held (last config calls)) + removals (turns config calls) ≡ additions (turns config calls)
+
+-- under policies 1 and 2 refusal 8 never comes
+abbrev pub NeverFull : Type 0
+NeverFull =
+    (config : Config) (calls : List Call) (turn : Turn)
+    → sound config ≡ true
+    → 1 ≤ config .policy
+    → List·Memᴰ turn (turns config calls)
+    → turn .reply .outcome ≡ Refused (refusal 8)
+    → ⊥
+
+-- the policy permits no inp, as 1 and 2 do (`InpRule`)
+abbrev pub NoInp : Config → Type 0
+NoInp config = (tuples : List Tuple) (call : Call) → call .code ≡ inp → verdictOn config tuples call ≡ Permit → ⊥
+
+-- under such a policy nothing leaves: what is held stays, in its order
+abbrev pub NothingLeaves : Type 0
+NothingLeaves =
+    (config : Config) (before calls : List Call)
+    → NoInp config
+    → (more : List Tuple) × (held (last config (before ++ calls)) ≡ held (last config before) ++ more)
+
+-- ---- what policy 2 makes of every list of calls
+
+-- the tuple was put by a done out of its own process
+pub record OwnOut (config : Config) (calls : List Call) (tuple : Tuple) : Type 0 where
+  pub turn : Turn
+  pub occurs : List·Memᴰ turn (turns config calls)
+  pub code : turn .call .code ≡ out
+  pub entry : turn .call .entry ≡ tuple
+  pub own : turn .call .process ≡ processOf tuple
+  pub done : turn .reply .outcome ≡ Done
+
+-- the tuple was inserted by a cas, which the policy permitted on what the space then held (`CasOffsetRule`, `CasBottomRule`)
+pub record Borne (config : Config) (calls : List Call) (tuple : Tuple) : Type 0 where
+  pub before : List Call
+  pub call : Call
+  pub behind : List Call
+  pub split : calls ≡ before ++ (call ∷ behind)
+  pub code : call .code ≡ cas
+  pub entry : call .entry ≡ tuple
+  pub inserted : applied (last config before) call .reply .outcome ≡ Inserted
+  pub permitted : verdictOn config (held (last config before)) call ≡ Permit
+
+pub record DefaultRule (config : Config) (calls : List Call) : Type 0 where
+  -- at most one proposal per round and process, each put by that process's own done out
+  pub one-proposal : (i j : ℕ) → i < length (held (last config calls)) → j < length (held (last config calls))
+      → isProposal (getD (held (last config calls)) i blankTuple) ≡ true
+      → isProposal (getD (held (last config calls)) j blankTuple) ≡ true
+      → roundOf (getD (held (last config calls)) i blankTuple) ≡ roundOf (getD (held (last config calls)) j blankTuple)
+      → processOf (getD (held (last config calls)) i blankTuple) ≡ processOf (getD (held (last config calls)) j blankTuple)
+      → i ≡ j
+  pub own-out : (tuple : Tuple) → List·Memᴰ tuple (held (last config calls)) → isProposal tuple ≡ true → OwnOut config calls tuple
+  -- at most one decision per round, borne at its insertion
+  pub one-decision : (i j : ℕ) → i < length (held (last config calls)) → j < length (held (last config calls))
+      → isDecision (getD (held (last config calls)) i blankTuple) ≡ true
+      → isDecision (getD (held (last config calls)) j blankTuple) ≡ true
+      → roundOf (getD (held (last config calls)) i blankTuple) ≡ roundOf (getD (held (last config calls)) j blankTuple)
+      → i ≡ j
+  pub borne : (tuple : Tuple) → List·Memᴰ tuple (held (last config calls)) → isDecision tuple ≡ true → Borne config calls tuple
+  -- and there is no other tuple
+  pub only : (tuple : Tuple) → List·Memᴰ tuple (held (last config calls)) → (isProposal tuple ≡ true) ⊎ (isDecision tuple ≡ true)
+
+abbrev pub DefaultRules : Type 0
+DefaultRules = (config : Config) (calls : List Call) → sound config ≡ true → config .policy ≡ 2 → DefaultRule config calls

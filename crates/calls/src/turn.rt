@@ -1,0 +1,77 @@
+// A call on a space: the refusals in their order, then what the call does.
+ghost use mathlib.Core.Path.{_≡_};
+ghost use Rattle.calls.specs.Turns.{firstRefusal, judged, carriedBy, applied};
+use crate::change::carry_out_unchecked;
+use crate::effect::Effect;
+use crate::effect::perform;
+use crate::effect::refused;
+use policy::Verdict;
+use policy::verdict;
+use space::Space;
+use tuple::Call;
+use tuple::Fault;
+use tuple::Refusal;
+use tuple::Reply;
+use tuple::TUPLES;
+
+// What a call on a space answers, and the space afterwards.
+pub struct Applied {
+    pub reply: Reply,
+    pub space: Space,
+}
+
+// A call on a space: the reply, and the space afterwards.
+pub fn apply(space: Space, call: Call) -> Applied
+    ensures { λ r. ⌜ r ≡ applied space call ⌝ }
+{
+    if !space.is_well_formed() {
+        return carried(space, call, refused(Refusal::Unsound));
+    }
+    carried(space, call, judge_unchecked(space, call))
+}
+
+// What a call on a space is answered, and what becomes of the tuples. Of the space the configuration and the count are tested, and not its
+// places: this is for spaces that are well formed by construction.
+pub fn judge_unchecked(space: Space, call: Call) -> Effect
+    ensures { λ r. ⌜ r ≡ judged space call ⌝ }
+{
+    let config = space.config;
+    if !config.is_sound() {
+        return refused(Refusal::Unsound);
+    }
+    if TUPLES < space.count {
+        return refused(Refusal::Unsound);
+    }
+    let first = first_refusal(space, call);
+    match first {
+        Verdict::Refuse(refusal) => refused(refusal),
+        Verdict::Permit => perform(space, call),
+    }
+}
+
+// The first refusal that a call meets, of 3 to 7.
+fn first_refusal(space: Space, call: Call) -> Verdict
+    ensures { λ r. ⌜ r ≡ firstRefusal space call ⌝ }
+{
+    let config = space.config;
+    if let Fault::Present(refusal) = call.fault() {
+        return Verdict::Refuse(refusal);
+    }
+    if !config.knows(call.process as u64) {
+        return Verdict::Refuse(Refusal::Stranger);
+    }
+    verdict(space, call)
+}
+
+// The reply, and the space with what becomes of its tuples carried out.
+fn carried(space: Space, call: Call, effect: Effect) -> Applied
+    ensures { λ r. ⌜ r ≡ carriedBy space call effect ⌝ }
+{
+    let reply = effect.reply;
+    let change = effect.change;
+    let entry = call.entry;
+    Applied {
+        reply,
+        space: carry_out_unchecked(space, entry, change),
+    }
+}

@@ -1,0 +1,221 @@
+-- Each policy permits exactly what document 01's words say. From the definitions of policies and the laws of proposals and sets.
+use mathlib.Core.Path.{_≡_, refl, ap, _∙_}
+use mathlib.Core.Logic.{_↔_, _⊎_, inl, inr}
+use mathlib.Core.Bool.{Bool, true, false, false≢true, cond, not, _&&_, and-eq-true-iff}
+use mathlib.Core.List.{List}
+use Prim.Native.Nat.{ℕ, _+_, _-_, _<_}
+use native.Mathlib.Omega.{arith}
+use lib.Count.{ones}
+use lib.Dec.{leb, eqb}
+use borrow.Author.Tests.{ltb-true, leb-true, eqb-true, not-true, lt-ltb, le-leb, eq-eqb, ne-eqb}
+use borrow.Table.Steps.{cases}
+use Rattle.policy.specs.declared.verdicts.Verdict.{Verdict}
+use Rattle.policy.specs.declared.verdicts.Verdict.the-variants.{Permit, Refuse}
+use Rattle.policy.specs.Default.{isOwnProposal, isFree, outVerdict, isDecisionCall, bearsOffset, bearsBottom, bears, casVerdict, default}
+use Rattle.policy.specs.Laws.{VerdictRule, UnknownRule, BoundedRule, BareRule, WeakRule, OutRule, RdpRule, InpRule, DecisionCall, BearsOffset, BearsBottom, CasOffsetRule, CasBottomRule}
+use Rattle.policy.specs.Policies.{verdictOn, verdict}
+use Rattle.policy.specs.Shapes.{sameRound, isWeakTemplate, isWeakEntry, isDecisionTemplate, decidedCode, setOf}
+use Rattle.policy.specs.Verdicts.{demand}
+use Rattle.policy.specs.Weak.{isWeakCall, weak}
+use Rattle.space.specs.declared.config.Config.{Config}
+use Rattle.space.specs.declared.proposal.Sought.the-variants.{One, Some, Any}
+use Rattle.space.specs.Bounds.{rounds}
+use Rattle.space.specs.Members.{within}
+use Rattle.space.specs.Proposals.{offered, proposed, everyProposed, crowded, Placed}
+use Rattle.space.specs.Shapes.{isProposal, roundOf, inRounds, processOf, proposedCode}
+use Rattle.space.proofs.MemberLaws.{within-rule, every-member}
+use Rattle.space.proofs.ProposalLaws.{proposed-rules, crowded-rule, backers-rule}
+use Rattle.space.proofs.ShapeLaws.{four}
+use Rattle.tuple.specs.declared.field.Tuple.{Tuple}
+use Rattle.tuple.specs.declared.field.Call.{Call}
+use Rattle.tuple.specs.declared.refusal.Refusal.{Refusal}
+use Rattle.tuple.specs.Fields.{out, rdp, cas}
+use Rattle.tuple.specs.Refusals.{refusal}
+
+-- ---- demands
+
+-- what is permitted behind a demand passed its test
+pub demanded : (test : Bool) (why : Refusal) (next : Verdict) → demand test why next ≡ Permit → (test ≡ true) × (next ≡ Permit)
+demanded true why next h = (refl, h)
+demanded false why next h = let z : _≡_ {A = ℕ} 0 1 = cc in absurd (omega arith)
+
+-- permitted, or denied, which is 7
+abbrev Ruled : Verdict → Type 0
+Ruled v = (v ≡ Permit) ⊎ (v ≡ Refuse (refusal 7))
+
+-- so is a verdict whose refusal, if it has one, is 7
+abbrev reason : Verdict → Refusal
+reason Permit = refusal 7
+reason (Refuse why) = why
+
+ruled : (v : Verdict) → reason v ≡ refusal 7 → Ruled v
+ruled Permit h = inl refl
+ruled (Refuse why) h = inr (ap Refuse h)
+
+demand-ruled : (test : Bool) {next : Verdict} → Ruled next → Ruled (demand test (refusal 7) next)
+demand-ruled true h = h
+demand-ruled false h = inr refl
+
+cond-ruled : (test : Bool) {a b : Verdict} → Ruled a → Ruled b → Ruled (cond test a b)
+cond-ruled true a b = a
+cond-ruled false a b = b
+
+pub verdict-rule : VerdictRule
+unfolding verdictOn weak default outVerdict casVerdict
+verdict-rule config tuples call =
+    cond-ruled (eqb (config .policy) 0) (ruled _ refl)
+    (cond-ruled (eqb (config .policy) 1) (demand-ruled (isWeakCall call) (ruled _ refl))
+    (cond-ruled (eqb (config .policy) 2)
+    (cond-ruled (eqb (call .code) out) (demand-ruled (isOwnProposal config call) (demand-ruled (isFree config tuples (call .entry)) (ruled _ refl)))
+    (cond-ruled (eqb (call .code) rdp) (ruled _ refl)
+    (cond-ruled (eqb (call .code) cas) (demand-ruled (isDecisionCall config call) (demand-ruled (bears config tuples (call .entry)) (ruled _ refl))) (ruled _ refl))))
+    (ruled _ refl)))
+
+-- ---- by the policy's number
+
+pub bounded-rule : BoundedRule
+unfolding verdict
+bounded-rule space call out-of = rw out-of
+
+pub unknown-rule : UnknownRule
+unfolding verdictOn
+unknown-rule config tuples call above =
+    rw (ne-eqb (config .policy) 0 (λ e. omega arith), ne-eqb (config .policy) 1 (λ e. omega arith), ne-eqb (config .policy) 2 (λ e. omega arith))
+
+pub bare-rule : BareRule
+unfolding verdictOn
+bare-rule config tuples call none = rw none
+
+module _ (config : Config) (tuples : List Tuple) (call : Call) where
+  pub under-weak : config .policy ≡ 1 → verdictOn config tuples call ≡ weak call
+  unfolding verdictOn
+  under-weak one = rw one
+
+  pub under-default : config .policy ≡ 2 → verdictOn config tuples call ≡ default config tuples call
+  unfolding verdictOn
+  under-default two = rw two
+
+-- ---- policy 1
+
+-- a cas on one round 0 to 7
+same-round : (template entry : Tuple) → (sameRound template entry ≡ true) ↔ ((roundOf template ≡ roundOf entry) × (roundOf entry < rounds))
+same-round template entry = (
+  λ h. let parts = and-eq-true-iff _ _ .0 h in (eqb-true _ _ (parts .0), ltb-true _ _ (parts .1)),
+  λ h. rw (eq-eqb (roundOf template) (roundOf entry) (h .0), lt-ltb (roundOf entry) rounds (h .1)),
+)
+
+pub weak-rule : WeakRule
+unfolding weak isWeakCall
+weak-rule config tuples call one =
+    let round = same-round (call .template) (call .entry) in
+    rw (under-weak config tuples call one) (
+      λ h.
+          let tests = demanded (isWeakCall call) (refusal 7) Permit h .0 in
+          let shapes = four (eqb (call .code) cas) (isWeakTemplate (call .template)) (isWeakEntry (call .entry)) (sameRound (call .template) (call .entry)) tests in
+          let on = round .0 (shapes .3) in
+          record { code = eqb-true _ _ (shapes .0); template = shapes .1; entry = shapes .2; same = on .0; in-rounds = on .1 },
+      λ c. rw (c .code, c .template, c .entry, round .1 (c .same, c .in-rounds)),
+    )
+
+-- ---- policy 2: rdp, inp and out
+
+pub rdp-rule : RdpRule
+unfolding default
+rdp-rule config tuples call two e = rw (under-default config tuples call two, e)
+
+pub inp-rule : InpRule
+unfolding verdictOn weak isWeakCall default
+inp-rule config tuples call some e =
+    let none = ne-eqb (config .policy) 0 (λ z. omega arith) in
+    cases (eqb (config .policy) 1) (λ one. rw (none, one, e)) (λ other. cases (eqb (config .policy) 2) (λ two. rw (none, other, two, e)) (λ more. rw (none, other, more)))
+
+free-rule : (config : Config) (tuples : List Tuple) (entry : Tuple) → (isFree config tuples entry ≡ true) ↔ (Placed tuples (roundOf entry) (processOf entry) → ⊥)
+unfolding isFree
+free-rule config tuples entry =
+    let taken = proposed-rules config tuples (roundOf entry) (processOf entry) .taken in (
+      λ h p. let test : not (proposed config tuples Any (roundOf entry) (processOf entry)) ≡ true = h in false≢true (rw (taken .1 p) at test),
+      λ free. cases (proposed config tuples Any (roundOf entry) (processOf entry)) (λ e. absurd (free (taken .0 e))) (λ e. rw e),
+    )
+
+pub out-rule : OutRule
+unfolding default outVerdict isOwnProposal
+out-rule config tuples call two e =
+    let entry = call .entry in
+    let none = free-rule config tuples entry in
+    rw (under-default config tuples call two, e) (
+      λ h.
+          let own = demanded (isOwnProposal config call) (refusal 7) (demand (isFree config tuples entry) (refusal 7) Permit) h in
+          let free = demanded (isFree config tuples entry) (refusal 7) Permit (own .1) .0 in
+          let parts = four (isProposal entry) (inRounds (roundOf entry)) (eqb (processOf entry) (call .process)) (offered config (proposedCode entry)) (own .0) in
+          let same : processOf entry ≡ call .process = eqb-true _ _ (parts .2) in
+          record { shape = parts .0; in-rounds = ltb-true _ _ (parts .1); own = same; may = parts .3; free = rw same at (none .0 free) },
+      λ own. rw (own .shape, lt-ltb _ _ (own .in-rounds), eq-eqb _ _ (own .own), own .may, none .1 (rw (own .own) (own .free))),
+    )
+
+-- ---- policy 2: cas
+
+module _ (config : Config) (tuples : List Tuple) (call : Call) where
+  pub decision-rule : (isDecisionCall config call ≡ true) ↔ DecisionCall config call
+  unfolding isDecisionCall
+  decision-rule =
+      let round = same-round (call .template) (call .entry) in
+      let set = within-rule (config .n) (setOf (call .entry)) in (
+        λ h.
+            let all = and-eq-true-iff _ (within (config .n) (setOf (call .entry))) .0 h in
+            let shapes = and-eq-true-iff _ (sameRound (call .template) (call .entry)) .0 (all .0) in
+            let shape = and-eq-true-iff (isDecisionTemplate (call .template)) _ .0 (shapes .0) in
+            let on = round .0 (shapes .1) in
+            record { template = shape .0; entry = shape .1; same = on .0; in-rounds = on .1; members = set .0 (all .1) },
+        λ d. rw (d .template, d .entry, round .1 (d .same, d .in-rounds), set .1 (d .members)),
+      )
+
+  under-cas : config .policy ≡ 2 → call .code ≡ cas → verdictOn config tuples call ≡ casVerdict config tuples call
+  unfolding default
+  under-cas two e =
+      under-default config tuples call two
+      ∙ rw (ne-eqb (call .code) out (λ z. omega arith), ne-eqb (call .code) rdp (λ z. omega arith), eq-eqb (call .code) cas e)
+
+  cas-rule : (Bears : Type 0) → config .policy ≡ 2 → call .code ≡ cas → (DecisionCall config call → (bears config tuples (call .entry) ≡ true) ↔ Bears)
+      → (verdictOn config tuples call ≡ Permit) ↔ (DecisionCall config call × Bears)
+  unfolding casVerdict
+  cas-rule Bears two e borne = rw (under-cas two e) (
+    λ h.
+        let tests = demanded (isDecisionCall config call) (refusal 7) (demand (bears config tuples (call .entry)) (refusal 7) Permit) h in
+        let shaped = decision-rule .0 (tests .0) in
+        (shaped, borne shaped .0 (demanded (bears config tuples (call .entry)) (refusal 7) Permit (tests .1) .0)),
+    λ h. rw (decision-rule .1 (h .0), borne (h .0) .1 (h .1)),
+  )
+
+pub cas-offset-rule : CasOffsetRule
+unfolding bears bearsOffset everyProposed
+cas-offset-rule config tuples call two e some =
+    let entry = call .entry in
+    cas-rule config tuples call (BearsOffset config tuples entry) two e
+    (λ shaped.
+    let each = every-member (proposed config tuples (One (decidedCode entry)) (roundOf entry)) (λ k. proposed-rules config tuples (roundOf entry) k .one (decidedCode entry))
+    (config .n) (setOf entry) (shaped .members) in (
+      λ h.
+          let tests : (leb (config .t + 1) (ones (setOf entry)) && everyProposed config tuples (One (decidedCode entry)) (roundOf entry) (setOf entry)) ≡ true = rw (ne-eqb _ _ some) at h in
+          let parts = and-eq-true-iff _ _ .0 tests in
+          record { enough = leb-true _ _ (parts .0); each = each .0 (parts .1) },
+      λ b. rw (ne-eqb _ _ some, le-leb _ _ (b .enough)) (each .1 (b .each)),
+    ))
+
+pub cas-bottom-rule : CasBottomRule
+unfolding bears bearsBottom everyProposed
+cas-bottom-rule config tuples call two e none =
+    let entry = call .entry in
+    let round = roundOf entry in
+    let set = setOf entry in
+    cas-rule config tuples call (BearsBottom config tuples entry) two e
+    (λ shaped.
+    let each = every-member (proposed config tuples Some round) (λ k. proposed-rules config tuples round k .some) (config .n) set (shaped .members) in
+    let few = crowded-rule config tuples round set in
+    let count = backers-rule config tuples round set (within-rule (config .n) set .1 (shaped .members)) in (
+      λ h.
+          let tests : (leb (config .n - config .t) (ones set) && everyProposed config tuples Some round set && not (crowded config tuples round set)) ≡ true = rw (eq-eqb _ _ none) at h in
+          let all = and-eq-true-iff _ _ .0 tests in
+          let parts = and-eq-true-iff _ _ .0 (all .0) in
+          record { enough = leb-true _ _ (parts .0); each = each .0 (parts .1); few = λ w. count w .0 (few .0 (not-true _ (all .1)) w) },
+      λ b. rw (eq-eqb _ _ none, le-leb _ _ (b .enough), each .1 (b .each), few .1 (λ w. count w .1 (b .few w))),
+    ))

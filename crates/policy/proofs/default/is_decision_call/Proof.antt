@@ -1,0 +1,40 @@
+-- `policy::default::is_decision_call` meets its contract: its tests are the definition's.
+use borrow.Author.Needs.{needs}
+use mathlib.Core.Path.{_∙_}
+use Rattle.policy.specs.Default.{isDecisionCall}
+use Rattle.policy.proofs.default.is_decision_call.Statement.{statement}
+use Rattle.policy.proofs.default.is_decision_call.Tie as tie
+
+element-copy-out-fourth : tie.Need-element-copy-out-fourth
+element-copy-out-fourth c = search needs
+
+is-decision-template-requires : tie.Need-is-decision-template-requires
+is-decision-template-requires c κs = search needs
+
+is-decision-requires : tie.Need-is-decision-requires
+is-decision-requires c κs = search needs
+
+same-round-requires : tie.Need-same-round-requires
+same-round-requires c κs = search needs
+
+within-requires : tie.Need-within-requires
+within-requires c κs = search needs
+
+all-four-requires : tie.Need-all-four-requires
+all-four-requires c κs = search needs
+
+returns : tie.Need-returns
+unfolding isDecisionCall
+returns c = c .all-four .ensures ∙ cc (c .before .before .before .before .is-decision-template .ensures, c .before .before .before .is-decision .ensures, c .before .before .same-round .ensures, c .before .within .ensures)
+
+pub is-decision-call-spec : {M : Type 1} → statement M
+is-decision-call-spec =
+    tie.close
+    (tie.spec
+    element-copy-out-fourth
+    is-decision-template-requires
+    is-decision-requires
+    same-round-requires
+    within-requires
+    all-four-requires
+    returns)

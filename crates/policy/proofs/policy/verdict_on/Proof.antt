@@ -1,0 +1,37 @@
+-- `policy::policy::verdict_on` meets its contract: its tests are the definition's.
+use borrow.Author.Needs.{needs}
+use mathlib.Core.Path.{sym, _∙_}
+use borrow.Author.Tests.{eq-eqb, ne-eqb}
+use Rattle.policy.specs.Policies.{verdictOn}
+use Rattle.policy.proofs.policy.verdict_on.Statement.{statement}
+use Rattle.policy.proofs.policy.verdict_on.Tie as tie
+
+returns : tie.Need-returns
+unfolding verdictOn
+returns c = rw (eq-eqb _ 0 (c .if1 .taken))
+
+weak-requires : tie.Need-weak-requires
+weak-requires c κs = search needs
+
+returns-2 : tie.Need-returns-2
+unfolding verdictOn
+returns-2 c = c .weak .ensures ∙ sym (rw (ne-eqb _ 0 (c .before .before .if1 .left), eq-eqb _ 1 (c .before .if2 .taken)))
+
+default-requires : tie.Need-default-requires
+default-requires c κs = search needs
+
+returns-3 : tie.Need-returns-3
+unfolding verdictOn
+returns-3 c =
+    let p = c .before .before in
+    c .default .ensures ∙ sym (rw (ne-eqb _ 0 (p .before .if1 .left), ne-eqb _ 1 (p .if2 .left), eq-eqb _ 2 (c .before .if3 .taken)))
+
+returns-4 : tie.Need-returns-4
+unfolding verdictOn
+returns-4 c =
+    let p = c .before in
+    rw (ne-eqb _ 0 (p .before .if1 .left), ne-eqb _ 1 (p .if2 .left), ne-eqb _ 2 (c .if3 .left))
+
+pub verdict-on-spec : {M : Type 1} → statement M
+verdict-on-spec =
+    tie.close (tie.spec returns weak-requires returns-2 default-requires returns-3 returns-4)

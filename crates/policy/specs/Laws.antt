@@ -1,0 +1,115 @@
+-- Each policy permits exactly what document 01's words say: claims over the definitions.
+use mathlib.Core.Path.{_≡_}
+use mathlib.Core.Logic.{_↔_, _⊎_}
+use mathlib.Core.Bool.{true, false}
+use mathlib.Core.List.{List}
+use Prim.Native.Nat.{ℕ, _+_, _-_, _≤_, _<_}
+use lib.Count.{ones}
+use Rattle.policy.specs.declared.verdicts.Verdict.the-variants.{Permit, Refuse}
+use Rattle.policy.specs.Policies.{verdictOn, verdict}
+use Rattle.policy.specs.Shapes.{isWeakTemplate, isWeakEntry, isDecisionTemplate, isDecision, decidedCode, setOf}
+use Rattle.space.specs.declared.config.Config.{Config}
+use Rattle.space.specs.declared.space.Space.{Space}
+use Rattle.space.specs.Bounds.{rounds}
+use Rattle.space.specs.Members.{Member}
+use Rattle.space.specs.Proposals.{offered, Placed, Proposed}
+use Rattle.space.specs.Shapes.{roundOf, isProposal, processOf, proposedCode}
+use Rattle.space.specs.Spaces.{bounded}
+use Rattle.tuple.specs.declared.field.Tuple.{Tuple}
+use Rattle.tuple.specs.declared.field.Call.{Call}
+use Rattle.tuple.specs.Fields.{out, rdp, inp, cas}
+use Rattle.tuple.specs.Offsets.{bottom}
+use Rattle.tuple.specs.Refusals.{refusal}
+
+-- ---- every policy
+
+-- a call is permitted or denied, which is 7
+abbrev pub VerdictRule : Type 0
+VerdictRule =
+    (config : Config) (tuples : List Tuple) (call : Call)
+    → (verdictOn config tuples call ≡ Permit) ⊎ (verdictOn config tuples call ≡ Refuse (refusal 7))
+
+-- on a space whose configuration or count is out of bounds every call is refused 1
+abbrev pub BoundedRule : Type 0
+BoundedRule = (space : Space) (call : Call) → bounded space ≡ false → verdict space call ≡ Refuse (refusal 1)
+
+-- a number that is no policy's permits nothing
+abbrev pub UnknownRule : Type 0
+UnknownRule = (config : Config) (tuples : List Tuple) (call : Call) → 2 < config .policy → verdictOn config tuples call ≡ Refuse (refusal 7)
+
+-- ---- policy 0: all calls
+
+abbrev pub BareRule : Type 0
+BareRule = (config : Config) (tuples : List Tuple) (call : Call) → config .policy ≡ 0 → verdictOn config tuples call ≡ Permit
+
+-- ---- policy 1: only cas, with the two shapes, on one round 0 to 7
+
+pub record WeakCall (call : Call) : Type 0 where
+  pub code : call .code ≡ cas
+  pub template : isWeakTemplate (call .template) ≡ true
+  pub entry : isWeakEntry (call .entry) ≡ true
+  pub same : roundOf (call .template) ≡ roundOf (call .entry)
+  pub in-rounds : roundOf (call .entry) < rounds
+
+abbrev pub WeakRule : Type 0
+WeakRule = (config : Config) (tuples : List Tuple) (call : Call) → config .policy ≡ 1 → (verdictOn config tuples call ≡ Permit) ↔ WeakCall call
+
+-- ---- policy 2
+
+-- out only of the caller's own proposal, of an offset that may be proposed, in a round 0 to 7, and no tuple of that round and process stands there
+pub record OwnProposal (config : Config) (tuples : List Tuple) (call : Call) : Type 0 where
+  pub shape : isProposal (call .entry) ≡ true
+  pub in-rounds : roundOf (call .entry) < rounds
+  pub own : processOf (call .entry) ≡ call .process
+  pub may : offered config (proposedCode (call .entry)) ≡ true
+  pub free : Placed tuples (roundOf (call .entry)) (call .process) → ⊥
+
+abbrev pub OutRule : Type 0
+OutRule =
+    (config : Config) (tuples : List Tuple) (call : Call)
+    → config .policy ≡ 2
+    → call .code ≡ out
+    → (verdictOn config tuples call ≡ Permit) ↔ OwnProposal config tuples call
+
+-- rdp is always permitted
+abbrev pub RdpRule : Type 0
+RdpRule = (config : Config) (tuples : List Tuple) (call : Call) → config .policy ≡ 2 → call .code ≡ rdp → verdictOn config tuples call ≡ Permit
+
+-- inp never, nor under policy 1
+abbrev pub InpRule : Type 0
+InpRule = (config : Config) (tuples : List Tuple) (call : Call) → 1 ≤ config .policy → call .code ≡ inp → verdictOn config tuples call ≡ Refuse (refusal 7)
+
+-- cas only with the two shapes, on one round 0 to 7, with all of the set in 1 to n
+pub record DecisionCall (config : Config) (call : Call) : Type 0 where
+  pub template : isDecisionTemplate (call .template) ≡ true
+  pub entry : isDecision (call .entry) ≡ true
+  pub same : roundOf (call .template) ≡ roundOf (call .entry)
+  pub in-rounds : roundOf (call .entry) < rounds
+  pub members : (k : ℕ) → Member k (setOf (call .entry)) → k ≤ config .n
+
+-- an offset: at least t + 1 members, each of which has proposed it
+pub record BearsOffset (config : Config) (tuples : List Tuple) (entry : Tuple) : Type 0 where
+  pub enough : config .t + 1 ≤ ones (setOf entry)
+  pub each : (k : ℕ) → Member k (setOf entry) → Proposed config tuples (roundOf entry) k (decidedCode entry)
+
+-- bottom: at least n - t members, each of which has proposed, and of every offset w at most t of them have proposed w: q is their set
+pub record BearsBottom (config : Config) (tuples : List Tuple) (entry : Tuple) : Type 0 where
+  pub enough : config .n - config .t ≤ ones (setOf entry)
+  pub each : (k : ℕ) → Member k (setOf entry) → (w : ℕ) × Proposed config tuples (roundOf entry) k w
+  pub few : (w q : ℕ) → ((k : ℕ) → Member k q ↔ (Member k (setOf entry) × Proposed config tuples (roundOf entry) k w)) → ones q ≤ config .t
+
+abbrev pub CasOffsetRule : Type 0
+CasOffsetRule =
+    (config : Config) (tuples : List Tuple) (call : Call)
+    → config .policy ≡ 2
+    → call .code ≡ cas
+    → (decidedCode (call .entry) ≡ bottom → ⊥)
+    → (verdictOn config tuples call ≡ Permit) ↔ (DecisionCall config call × BearsOffset config tuples (call .entry))
+
+abbrev pub CasBottomRule : Type 0
+CasBottomRule =
+    (config : Config) (tuples : List Tuple) (call : Call)
+    → config .policy ≡ 2
+    → call .code ≡ cas
+    → decidedCode (call .entry) ≡ bottom
+    → (verdictOn config tuples call ≡ Permit) ↔ (DecisionCall config call × BearsBottom config tuples (call .entry))

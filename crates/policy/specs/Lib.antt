@@ -1,0 +1,6 @@
+pub mod Default
+pub mod Laws
+pub mod Policies
+pub mod Shapes
+pub mod Verdicts
+pub mod Weak

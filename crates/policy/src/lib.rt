@@ -1,0 +1,10 @@
+// The access policies: the shapes of decisions, what each policy says of a call, and the verdict by the policy's number.
+mod default;
+mod policy;
+mod shape;
+mod verdicts;
+mod weak;
+
+pub use policy::verdict;
+pub use shape::is_decision;
+pub use verdicts::Verdict;

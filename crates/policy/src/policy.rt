@@ -1,0 +1,45 @@
+// The verdict of a space's policy.
+ghost use mathlib.Core.Path.{_≡_};
+ghost use mathlib.Core.Bool.{true};
+ghost use Rattle.policy.specs.Policies.{verdictOn, verdict as verdict·};
+ghost use Rattle.space.specs.Configs.{sound};
+ghost use Rattle.space.specs.Spaces.{held};
+use crate::default::default;
+use crate::verdicts::Verdict;
+use crate::weak::weak;
+use space::Space;
+use tuple::Call;
+use tuple::Refusal;
+use tuple::TUPLES;
+
+// The verdict of the space's policy on a call. On a space whose configuration or count is out of bounds it is 1.
+pub fn verdict(space: Space, call: Call) -> Verdict
+    ensures { λ r. ⌜ r ≡ verdict· space call ⌝ }
+{
+    let config = space.config;
+    if !config.is_sound() {
+        return Verdict::Refuse(Refusal::Unsound);
+    }
+    if TUPLES < space.count {
+        return Verdict::Refuse(Refusal::Unsound);
+    }
+    verdict_on(space, call)
+}
+
+// The verdict by the policy's number.
+fn verdict_on(space: Space, call: Call) -> Verdict
+    requires { ⌜ sound (space .config) ≡ true ⌝ }
+    ensures { λ r. ⌜ r ≡ verdictOn (space .config) (held space) call ⌝ }
+{
+    let policy = space.config.policy;
+    if policy == 0 {
+        return Verdict::Permit;
+    }
+    if policy == 1 {
+        return weak(call);
+    }
+    if policy == 2 {
+        return default(space, call);
+    }
+    Verdict::Refuse(Refusal::Denied)
+}

@@ -1,0 +1,6 @@
+pub mod DigitLaws
+pub mod FeedLaws
+pub mod LengthLaws
+pub mod PlaceLaws
+pub mod SignLaws
+mod TextLaws

@@ -1,0 +1,18 @@
+// The bounds of tuples and of what their fields hold.
+
+// The most fields of a tuple, and the most tuples of a space.
+pub const FIELDS: usize = 6;
+
+pub const TUPLES: usize = 128;
+
+// The largest value of each kind; an offset's is its largest code.
+pub const LARGEST_WORD: u64 = 255;
+
+pub const LARGEST_COUNT: u64 = 4_294_967_295;
+
+pub const LARGEST_CODE: u64 = 200_001;
+
+pub const LARGEST_SET: u64 = 32_767;
+
+// The largest offset; the least is its negative.
+pub const LARGEST_OFFSET: i32 = 100_000;

@@ -22,7 +22,7 @@ pub fn call(call: &Call) -> sys::Call {
 }
 
 pub fn config(config: &Config) -> sys::Config {
-    sys::Config { n: config.n, t: config.t, policy: config.policy }
+    sys::Config { n: config.n, t: config.t, policy: config.policy, k: config.k }
 }
 
 pub fn space(board: &Board) -> sys::Space {

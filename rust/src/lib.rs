@@ -1,6 +1,7 @@
-//! The shared offset board of document 01, read independently and written
-//! plainly: safe Rust, std only. Records and matching lie below the board and
-//! policies, which lie below the seat procedure and the program.
+//! The shared offset board of document 01 with request 2.1 of document 02,
+//! read independently and written plainly: safe Rust, std only. Records and
+//! matching lie below the board and policies, which lie below the seat
+//! procedure and the program.
 //!
 //! `sys` and `flat` stand apart: they reach the proved library, for the tests
 //! that compare the two (tests/compare.rs) and for the benchmark (the program

@@ -1,5 +1,5 @@
-//! The three policies (01, "Policies"). The board handed to `permits` is well
-//! formed and the call is sound and of a seat from 1 to n.
+//! The four policies (01, "Policies", and 02, 2.1). The board handed to
+//! `permits` is well formed and the call is sound and of a seat from 1 to n.
 
 use crate::board::Board;
 use crate::fields::{Field, Kind, Tuple, DECISION, MOST_SEATS};
@@ -9,16 +9,25 @@ use crate::records::{Call, Code};
 /// Rounds are 0 to this.
 pub const LAST_ROUND: u64 = 7;
 
+/// Policy 0: all is permitted.
+pub const BARE: u64 = 0;
+/// Policy 1: only cas, with nothing asked of the offset.
+pub const WEAK: u64 = 1;
+/// Policy 2: an offset that t + 1 seats proposed, or else the mark.
+pub const DEFAULT: u64 = 2;
+/// Policy 3: one of k choices, which t + 1 seats proposed.
+pub const STRONG: u64 = 3;
+
 /// Whether the board's policy permits the call.
 pub(crate) fn permits(board: &Board, code: Code, call: &Call) -> bool {
     match board.config.policy {
-        0 => true,
-        1 => code == Code::Cas && weak_cas(&call.template, &call.entry),
-        2 => match code {
-            Code::Out => default_out(board, call.process.into(), &call.entry),
+        BARE => true,
+        WEAK => code == Code::Cas && weak_cas(&call.template, &call.entry),
+        DEFAULT | STRONG => match code {
+            Code::Out => proposing_out(board, call.process.into(), &call.entry),
             Code::Rdp => true,
             Code::Inp => false,
-            Code::Cas => default_cas(board, &call.template, &call.entry),
+            Code::Cas => deciding_cas(board, &call.template, &call.entry),
         },
         _ => false,
     }
@@ -37,17 +46,18 @@ fn weak_cas(template: &Tuple, entry: &Tuple) -> bool {
     entry.fields[0] == word && *template == named && round <= LAST_ROUND
 }
 
-/// Fig. 5, out: the calling seat's first proposal in the round, not the mark.
-fn default_out(board: &Board, process: u64, entry: &Tuple) -> bool {
+/// Fig. 5, out: an offset that may be proposed, where the calling seat has no
+/// other, whatever it be, in the round.
+fn proposing_out(board: &Board, process: u64, entry: &Tuple) -> bool {
     let Some((round, seat, offset)) = entry.as_proposal() else {
         return false;
     };
     let again = board.held().iter().filter_map(Tuple::as_proposal).any(|(r, q, _)| (r, q) == (round, seat));
-    round <= LAST_ROUND && seat == process && offset != Offset::MARK && !again
+    round <= LAST_ROUND && seat == process && board.config.may_propose(offset) && !again
 }
 
 /// Fig. 5, cas: a decision with the seats that bear it out.
-fn default_cas(board: &Board, template: &Tuple, entry: &Tuple) -> bool {
+fn deciding_cas(board: &Board, template: &Tuple, entry: &Tuple) -> bool {
     let Some((round, offset, seats)) = entry.as_decision() else {
         return false;
     };
@@ -55,7 +65,7 @@ fn default_cas(board: &Board, template: &Tuple, entry: &Tuple) -> bool {
         return false;
     }
     let (n, t) = (board.config.n, board.config.t);
-    if seats >> n != 0 {
+    if seats >> n != 0 || !board.config.may_decide(offset) {
         return false;
     }
     let proposals = Proposals::of(board, round);
@@ -69,13 +79,14 @@ fn default_cas(board: &Board, template: &Tuple, entry: &Tuple) -> bool {
     }
 }
 
-/// What the board's seats have proposed in one round: seat and offset, no marks.
+/// What the board's seats have proposed in one round: seat and offset. A tuple
+/// with what may not be proposed is none.
 struct Proposals(Vec<(u64, u64)>);
 
 impl Proposals {
     fn of(board: &Board, round: u64) -> Proposals {
         let proposal = |tuple: &Tuple| match tuple.as_proposal() {
-            Some((r, seat, offset)) if r == round && offset != Offset::MARK => Some((seat, offset)),
+            Some((r, seat, offset)) if r == round && board.config.may_propose(offset) => Some((seat, offset)),
             _ => None,
         };
         Proposals(board.held().iter().filter_map(proposal).collect())
@@ -112,12 +123,21 @@ mod tests {
     const DENIED: Result<Answer, Refusal> = Err(Refusal::Denied);
 
     fn board(n: u64, t: u64, policy: u64) -> Board {
-        Board::fresh(Config { n, t, policy }).unwrap()
+        Board::fresh(Config { n, t, policy, k: 0 }).unwrap()
+    }
+
+    /// An empty board under policy 3.
+    fn strong(n: u64, t: u64, k: u64) -> Board {
+        Board::fresh(Config { n, t, policy: STRONG, k }).unwrap()
     }
 
     /// A board under policy 2 with these tuples, as if handed in.
     fn with(n: u64, t: u64, tuples: &[Tuple]) -> Board {
-        let mut board = board(n, t, 2);
+        filled(board(n, t, DEFAULT), tuples)
+    }
+
+    /// An empty board, filled with these tuples.
+    fn filled(mut board: Board, tuples: &[Tuple]) -> Board {
         board.count = tuples.len();
         board.tuples[..tuples.len()].copy_from_slice(tuples);
         board
@@ -269,5 +289,79 @@ mod tests {
             let alone = seats.count_ones() == 1 && seats == 1;
             assert_eq!(with(4, 0, &tuples).call(&cas(0, 1, seats)).is_ok(), alone);
         }
+    }
+
+    #[test]
+    fn strong_reading() {
+        let mut board = strong(4, 1, 2);
+        assert_eq!(board.call(&Call::rdp(1, Tuple::of(&[Field::any(Kind::Seats)]))), Ok(Answer::NONE));
+        assert_eq!(board.call(&Call::inp(1, Tuple::decision_template(0))), DENIED);
+    }
+
+    #[test]
+    fn strong_proposals() {
+        let mut board = strong(5, 1, 3);
+        // The mark, -1, -2, 3, 100,000; then another's, and round 8.
+        for offset in [0, 2, 4, 7, 200_001] {
+            assert_eq!(board.call(&propose(1, 7, 1, offset)), DENIED, "{offset}");
+        }
+        assert_eq!(board.call(&propose(1, 7, 2, 3)), DENIED);
+        assert_eq!(board.call(&propose(1, 8, 1, 3)), DENIED);
+        for (seat, offset) in [(1, 1), (2, 3), (3, 5)] {
+            assert_eq!(board.call(&propose(seat, 7, seat.into(), offset)), Ok(Answer::DONE), "{offset}");
+            for again in 0..8 {
+                assert_eq!(board.call(&propose(seat, 7, seat.into(), again)), DENIED);
+            }
+        }
+        // Whatever stands in its place, no choice included, a proposal is the second.
+        for offset in [0, 1, 2, 7, 200_001] {
+            let mut board = filled(strong(5, 1, 3), &[Tuple::proposal(0, 1, offset)]);
+            assert_eq!(board.call(&propose(1, 0, 1, 3)), DENIED, "{offset}");
+            assert_eq!(board.call(&propose(1, 1, 1, 3)), Ok(Answer::DONE));
+        }
+    }
+
+    #[test]
+    fn strong_decisions() {
+        let proposals = [1, 3, 1, 5, 1].into_iter().zip(1..).map(|(w, q)| Tuple::proposal(0, q, w));
+        let fresh = filled(strong(5, 1, 3), &proposals.collect::<Vec<_>>());
+        for seats in 0..1 << 6 {
+            for offset in 0..9 {
+                let answer = fresh.clone().call(&cas(0, offset, seats));
+                let borne = offset == 1 && seats & !0b10101 == 0 && seats.count_ones() >= 2;
+                assert_eq!(answer, if borne { Ok(Answer::INSERTED) } else { DENIED }, "{offset} {seats}");
+            }
+        }
+        let answer = |call: Call| fresh.clone().call(&call);
+        assert_eq!(answer(cas(1, 1, 0b00101)), DENIED);
+        assert_eq!(answer(cas(8, 1, 0b00101)), DENIED);
+        let mut other = cas(0, 1, 0b00101);
+        other.template = Tuple::decision_template(1);
+        assert_eq!(answer(other), DENIED);
+        let mut board = fresh.clone();
+        assert_eq!(board.call(&cas(0, 1, 0b00101)), Ok(Answer::INSERTED));
+        assert_eq!(board.call(&cas(0, 1, 0b10100)), Ok(Answer::held(Tuple::decision(0, 1, 5))));
+        assert_eq!(board.call(&cas(0, 5, 0b01000)), DENIED);
+    }
+
+    #[test]
+    fn strong_proposals_that_no_run_makes() {
+        // Enough seats for each of the mark, -1 and 2, which are no choices among two; and for 1.
+        let tuples: Vec<Tuple> =
+            [0, 2, 5, 3].into_iter().flat_map(|w| (1..=4).map(move |q| Tuple::proposal(0, q, w))).collect();
+        for seats in 0..=0b1111u64 {
+            for offset in 0..8 {
+                let answer = filled(strong(4, 1, 2), &tuples).call(&cas(0, offset, seats));
+                let borne = offset == 3 && seats.count_ones() >= 2;
+                assert_eq!(answer, if borne { Ok(Answer::INSERTED) } else { DENIED }, "{offset} {seats}");
+            }
+        }
+        // A seat's two choices count once for each.
+        let tuples = [(1, 1), (1, 3), (2, 1), (3, 3)].map(|(q, w)| Tuple::proposal(0, q, w));
+        for (offset, seats) in [(1, 0b0011), (3, 0b0101)] {
+            let answer = filled(strong(4, 1, 2), &tuples).call(&cas(0, offset, seats));
+            assert_eq!(answer, Ok(Answer::INSERTED));
+        }
+        assert_eq!(filled(strong(4, 1, 2), &tuples[..2]).call(&cas(0, 1, 0b0001)), DENIED);
     }
 }

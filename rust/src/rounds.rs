@@ -1,16 +1,18 @@
-//! Board and seats together under policy 2: fixed cases, a line for every call
-//! and every decision.
+//! Board and seats together under policies 2 and 3: fixed cases, a line for
+//! every call and every decision.
 //!
 //! The rounds of a case come one after another. In each pass of a round the
-//! seats 1 to n come in order, each with one call at most, its answer handed
-//! to it at once. A round ends after the pass in which the last following seat
-//! that is not silent has decided.
+//! following seats come in order, each with one call at most, its answer
+//! handed to it at once; at the end of the pass stands one call of a stray. A
+//! round ends after the pass in which the last following seat that is not
+//! silent has decided, and strays' calls left over are not made.
 
 use std::fmt::Write;
 
 use crate::board::{Answer, Board, Config};
 use crate::fields::{Tuple, MOST_SEATS};
 use crate::numbers::Offset;
+use crate::policy::{DEFAULT, STRONG};
 use crate::records::Call;
 use crate::seat::{Phase, Seat, Step};
 use crate::text;
@@ -21,22 +23,49 @@ enum Part {
     Follows { offset: i64, begin: u32 },
     /// Follows, and never calls.
     Silent,
-    /// Makes these calls, one in each pass.
-    Strays(Vec<Call>),
+    /// Calls what the round has for strays.
+    Strays,
 }
 
-/// One round: its number, and what each seat from 1 on does.
+/// One round: its number, what each seat from 1 on does, and the calls of the
+/// strays, one at the end of each pass.
 struct Round {
     number: u64,
     parts: Vec<Part>,
+    strays: Vec<Call>,
 }
 
-/// A case: a fresh board and the rounds on it.
+/// A case: a fresh board and the rounds on it. It is under policy 2 if k is 0,
+/// else under policy 3 with k choices.
 struct Case {
     name: &'static str,
     n: u64,
     t: u64,
+    k: u64,
     rounds: Vec<Round>,
+}
+
+impl Round {
+    /// A round without strays.
+    fn of(number: u64, parts: Vec<Part>) -> Round {
+        Round { number, parts, strays: Vec::new() }
+    }
+}
+
+impl Case {
+    fn config(&self) -> Config {
+        let policy = if self.k == 0 { DEFAULT } else { STRONG };
+        Config { n: self.n, t: self.t, policy, k: self.k }
+    }
+
+    /// Its name, n and t, and under policy 3 k.
+    fn title(&self) -> String {
+        let Case { name, n, t, k, .. } = self;
+        match k {
+            0 => format!("{name} {n} {t}"),
+            _ => format!("{name} {n} {t} {k}"),
+        }
+    }
 }
 
 /// Follows from the first pass.
@@ -49,49 +78,80 @@ fn travelling(offset: i64) -> u64 {
     Offset::Number(offset).travelling().expect("an offset in range")
 }
 
+/// A proposal in round 0, made by this seat in that one's name.
+fn proposal(seat: u32, that: u64, offset: i64) -> Call {
+    Call::out(seat, Tuple::proposal(0, that, travelling(offset)))
+}
+
+/// A decision in round 0, by this seat with this set.
+fn decision(seat: u32, offset: u64, seats: u64) -> Call {
+    Call::cas(seat, Tuple::decision_template(0), Tuple::decision(0, offset, seats))
+}
+
 /// The cases, in order.
 fn cases() -> Vec<Case> {
-    let cas = |offset, seats| Call::cas(4, Tuple::decision_template(0), Tuple::decision(0, offset, seats));
-    let out = |seat, offset| Call::out(4, Tuple::proposal(0, seat, travelling(offset)));
-    let stray = vec![out(4, -40), out(4, 40), cas(travelling(-40), 9), out(1, -40), cas(Offset::MARK, 15)];
-    let full = |r: i64| Round {
-        number: r.unsigned_abs(),
-        parts: (1..=MOST_SEATS as i64).map(|k| follows(((k + r) % (r + 1)) * 50 - 100)).collect(),
-    };
-    vec![
-        Case {
-            name: "stray",
-            n: 4,
-            t: 1,
-            rounds: vec![Round {
-                number: 0,
-                parts: vec![follows(40), follows(40), follows(-40), Part::Strays(stray)],
-            }],
-        },
-        Case {
-            name: "split",
-            n: 4,
-            t: 1,
-            rounds: vec![Round { number: 0, parts: [-100_000, 0, 100_000, -1].map(follows).into() }],
-        },
-        Case {
-            name: "signs",
-            n: 4,
-            t: 1,
-            rounds: vec![Round { number: 0, parts: [40, -40, 40, -40].map(follows).into() }],
-        },
-        Case {
-            name: "late",
-            n: 4,
-            t: 1,
-            rounds: vec![Round {
-                number: 3,
-                parts: vec![follows(5), follows(-5), Part::Follows { offset: -5, begin: 8 }, Part::Silent],
-            }],
-        },
-        Case { name: "one", n: 1, t: 0, rounds: vec![Round { number: 7, parts: vec![follows(-40)] }] },
-        Case { name: "full", n: MOST_SEATS, t: 4, rounds: (0..=7).map(full).collect() },
-    ]
+    vec![stray(), split(), signs(), late(), one(), full(), choices(), seventh(), pair()]
+}
+
+fn stray() -> Case {
+    let parts = vec![follows(40), follows(40), follows(-40), Part::Strays];
+    let strays =
+        vec![proposal(4, 4, -40), proposal(4, 4, 40), decision(4, travelling(-40), 9), proposal(4, 1, -40)];
+    Case { name: "stray", n: 4, t: 1, k: 0, rounds: vec![Round { number: 0, parts, strays }] }
+}
+
+fn split() -> Case {
+    let parts = [-100_000, 0, 100_000, -1].map(follows).into();
+    Case { name: "split", n: 4, t: 1, k: 0, rounds: vec![Round::of(0, parts)] }
+}
+
+fn signs() -> Case {
+    let parts = [40, -40, 40, -40].map(follows).into();
+    Case { name: "signs", n: 4, t: 1, k: 0, rounds: vec![Round::of(0, parts)] }
+}
+
+fn late() -> Case {
+    let parts = vec![follows(5), follows(-5), Part::Follows { offset: -5, begin: 8 }, Part::Silent];
+    Case { name: "late", n: 4, t: 1, k: 0, rounds: vec![Round::of(3, parts)] }
+}
+
+fn one() -> Case {
+    Case { name: "one", n: 1, t: 0, k: 0, rounds: vec![Round::of(7, vec![follows(-40)])] }
+}
+
+/// Eight rounds, in which all fifteen seats follow.
+fn full() -> Case {
+    let parts = |r: i64| (1..=MOST_SEATS as i64).map(|k| follows(((k + r) % (r + 1)) * 50 - 100)).collect();
+    let rounds = (0..=7).map(|r: i64| Round::of(r.unsigned_abs(), parts(r))).collect();
+    Case { name: "full", n: MOST_SEATS, t: 4, k: 0, rounds }
+}
+
+/// What seats 2 to 8 propose of three choices, seats 1 and 9 doing otherwise.
+fn between(first: Part, last: Part) -> Vec<Part> {
+    let following = [0, 1, 2, 0, 1, 2, 2].map(follows);
+    [first].into_iter().chain(following).chain([last]).collect()
+}
+
+fn choices() -> Case {
+    let parts = between(Part::Strays, Part::Strays);
+    let strays = vec![
+        proposal(1, 1, 0),
+        proposal(9, 9, 1),
+        decision(1, travelling(2), 0b0_0100_1001),
+        decision(9, Offset::MARK, 0b1_1111_1111),
+    ];
+    Case { name: "choices", n: 9, t: 2, k: 3, rounds: vec![Round { number: 0, parts, strays }] }
+}
+
+/// Only the seventh proposal found settles it.
+fn seventh() -> Case {
+    let parts = between(Part::Silent, Part::Silent);
+    Case { name: "seventh", n: 9, t: 2, k: 3, rounds: vec![Round::of(0, parts)] }
+}
+
+fn pair() -> Case {
+    let parts = (0..MOST_SEATS as i64).map(|place| follows(place % 2)).collect();
+    Case { name: "pair", n: MOST_SEATS, t: 4, k: 2, rounds: vec![Round::of(0, parts)] }
 }
 
 /// The text of all cases.
@@ -100,9 +160,8 @@ pub fn run() -> String {
 }
 
 fn run_case(case: &Case) -> String {
-    let mut text = format!("{} {} {}\n", case.name, case.n, case.t);
-    let config = Config { n: case.n, t: case.t, policy: 2 };
-    let mut board = Board::fresh(config).expect("a sound set-up");
+    let mut text = case.title() + "\n";
+    let mut board = Board::fresh(case.config()).expect("a sound set-up");
     for round in &case.rounds {
         run_round(&mut board, round, &mut text);
     }
@@ -117,15 +176,11 @@ struct Begun {
 
 fn run_round(board: &mut Board, round: &Round, text: &mut String) {
     let mut begun: Vec<Option<Begun>> = round.parts.iter().map(|_| None).collect();
+    let mut strays = round.strays.iter();
     for pass in 1.. {
         for ((k, part), begun) in (1..).zip(&round.parts).zip(&mut begun) {
             match part {
-                Part::Silent => {}
-                Part::Strays(calls) => {
-                    if let Some(call) = calls.get(pass as usize - 1) {
-                        obey(board, call, text);
-                    }
-                }
+                Part::Silent | Part::Strays => {}
                 Part::Follows { begin, .. } if begun.is_none() && pass < *begin => {}
                 Part::Follows { offset, .. } => {
                     let begun = begun.get_or_insert_with(|| {
@@ -137,9 +192,12 @@ fn run_round(board: &mut Board, round: &Round, text: &mut String) {
                 }
             }
         }
+        if let Some(call) = strays.next() {
+            obey(board, call, text);
+        }
         let decided = |(part, begun): (&Part, &Option<Begun>)| match part {
             Part::Follows { .. } => begun.as_ref().is_some_and(Begun::has_decided),
-            Part::Silent | Part::Strays(_) => true,
+            Part::Silent | Part::Strays => true,
         };
         if round.parts.iter().zip(&begun).all(decided) {
             return;
@@ -190,8 +248,10 @@ mod tests {
         let text = run();
         let headers: Vec<&str> =
             text.lines().filter(|line| line.starts_with(|first: char| first.is_ascii_lowercase())).collect();
-        assert_eq!(headers, ["stray 4 1", "split 4 1", "signs 4 1", "late 4 1", "one 1 0", "full 15 4"]);
-        assert!(text.ends_with("\n15 decides c7 o_\n"));
+        let default = ["stray 4 1", "split 4 1", "signs 4 1", "late 4 1", "one 1 0", "full 15 4"];
+        let strong = ["choices 9 2 3", "seventh 9 2 3", "pair 15 4 2"];
+        assert_eq!(headers, [&default[..], &strong].concat());
+        assert!(text.ends_with("\n15 decides c0 o0\n"));
     }
 
     #[test]
@@ -217,16 +277,34 @@ mod tests {
 3 decides c0 o40
 4 out w1 c0 c1 o-40: refused 7
 ";
-        assert_eq!(run_case(&cases()[0]), text);
+        assert_eq!(run_case(&stray()), text);
     }
 
     #[test]
     fn eight_full_rounds_fill_the_board() {
-        let text = run_case(&cases()[5]);
+        let text = run_case(&full());
         let count = |end: &str| text.lines().filter(|line| line.ends_with(end)).count();
         assert_eq!(count(": done"), 120);
         assert_eq!(count(": inserted"), 8);
         assert_eq!(text.matches(" decides ").count(), 120);
         assert_eq!(text.matches("refused").count(), 0);
+    }
+
+    #[test]
+    fn every_call_of_the_strays_is_made() {
+        let calls = |text: &str| text.lines().filter(|line| line.contains(": ")).count();
+        // Seven seats follow: each proposes, reads five seats, and decides.
+        assert_eq!(calls(&run_case(&choices())), 7 * (1 + 5 + 1) + 4);
+        // Without the strays' proposals each reads eight seats.
+        assert_eq!(calls(&run_case(&seventh())), 7 * (1 + 8 + 1));
+    }
+
+    #[test]
+    fn one_choice_is_decided() {
+        for (case, decision, seats) in [(choices(), "o0", 7), (seventh(), "o2", 7), (pair(), "o0", 15)] {
+            let text = run_case(&case);
+            assert_eq!(text.matches(&format!(" decides c0 {decision}\n")).count(), seats);
+            assert_eq!(text.matches(" decides ").count(), seats);
+        }
     }
 }

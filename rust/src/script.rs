@@ -1,6 +1,7 @@
-//! A whole script: bytes in, text out (01, "A whole script").
+//! A whole script: bytes in, text out (01, "A whole script", and 02, 2.1).
 
 use crate::board::{Answer, Board, Config};
+use crate::policy::STRONG;
 use crate::records::Reader;
 use crate::refusal::Refusal;
 use crate::text;
@@ -32,12 +33,10 @@ fn lines(script: &[u8]) -> Result<String, Refusal> {
         return Err(Refusal::TooLong);
     }
     let mut reader = Reader::new(script);
-    let n = reader.number()?.into();
-    let t = reader.number()?.into();
-    let policy = reader.number()?.into();
-    let mut board = Board::fresh(Config { n, t, policy })?;
+    let config = set_up(&mut reader)?;
+    let mut board = Board::fresh(config)?;
 
-    let mut text = format!("board {n} {t} {policy}\n");
+    let mut text = first_line(&config);
     let mut number = 0u32;
     while !reader.at_end() {
         number += 1;
@@ -53,6 +52,24 @@ fn lines(script: &[u8]) -> Result<String, Refusal> {
     }
     text.push_str(&format!("tuples {}\n", board.count));
     Ok(text)
+}
+
+/// Reads n, t and the policy number, and under policy 3 k, sound or not.
+fn set_up(reader: &mut Reader) -> Result<Config, Refusal> {
+    let n = reader.number()?.into();
+    let t = reader.number()?.into();
+    let policy = reader.number()?.into();
+    let k = if policy == STRONG { reader.number()?.into() } else { 0 };
+    Ok(Config { n, t, policy, k })
+}
+
+/// board, n, t, policy, and under policy 3 k.
+fn first_line(config: &Config) -> String {
+    let Config { n, t, policy, k } = config;
+    match *policy {
+        STRONG => format!("board {n} {t} {policy} {k}\n"),
+        _ => format!("board {n} {t} {policy}\n"),
+    }
 }
 
 #[cfg(test)]
@@ -102,7 +119,7 @@ mod tests {
             ("84 00 01 02", "refused 3\n"),
             ("00 00 80 00", "refused 3\n"),
             ("03 01 02", "refused 1\n"),
-            ("04 01 03", "refused 1\n"),
+            ("04 01 04", "refused 1\n"),
             ("00 00 00", "refused 1\n"),
             ("10 00 00", "refused 1\n"),
             ("0F FF FF FF FF 0F 00", "refused 1\n"),
@@ -112,6 +129,49 @@ mod tests {
         for (script, text) in rows {
             assert_eq!(run(&hex(script)), text, "{script}");
         }
+    }
+
+    #[test]
+    fn the_fourth_number() {
+        let rows = [
+            ("04 01 03", "refused 2\n"),
+            ("00 01 03", "refused 2\n"),
+            ("04 01 03 82", "refused 2\n"),
+            ("04 01 03 80 00", "refused 3\n"),
+            ("00 01 03 80 00", "refused 3\n"),
+            ("04 01 03 FF FF FF FF 10", "refused 3\n"),
+            ("04 00 03 FF FF FF FF 0F", "refused 1\n"),
+            ("04 00 03 00", "refused 1\n"),
+            ("04 00 03 01", "refused 1\n"),
+            ("04 00 03 09", "refused 1\n"),
+            ("03 01 03 02", "refused 1\n"),
+            ("09 01 03 08", "refused 1\n"),
+            ("04 01 03 02", "board 4 1 3 2\ntuples 0\n"),
+            ("0A 01 03 08", "board 10 1 3 8\ntuples 0\n"),
+            ("01 00 03 08", "board 1 0 3 8\ntuples 0\n"),
+            // Under the other policies a record follows, and policy 4 needs no further number.
+            ("04 01 02 02", "board 4 1 2\n1 refused 2\ntuples 0\n"),
+            ("04 01 00 02 01 01 04 07", "board 4 1 0\n1 done\ntuples 1\n"),
+            ("04 01 04 80 00", "refused 1\n"),
+        ];
+        for (script, text) in rows {
+            assert_eq!(run(&hex(script)), text, "{script}");
+        }
+    }
+
+    #[test]
+    fn a_round_among_choices() {
+        let script = "04 01 03 02
+            01 01 04 04 01 08 00 08 01 0C 01
+            02 01 04 04 01 08 00 08 02 0C 03
+            03 01 04 04 01 08 00 08 03 0C 05
+            03 01 04 04 01 08 00 08 03 0C 03
+            04 04 04 04 02 08 00 0E 11 04 04 02 08 00 0C 00 10 07
+            01 04 04 04 02 08 00 0E 11 04 04 02 08 00 0C 03 10 06
+            02 02 04 04 02 08 00 0E 11";
+        let text = "board 4 1 3 2\n1 done\n2 done\n3 refused 7\n4 done\n5 refused 7\n6 inserted\n\
+            7 found w2 c0 o1 s6\ntuples 4\n";
+        assert_eq!(run(&hex(script)), text);
     }
 
     #[test]

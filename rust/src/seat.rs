@@ -1,14 +1,18 @@
-//! The procedure of a following seat (01, "The procedure of a following seat").
+//! The procedure of a following seat (01, "The procedure of a following seat",
+//! and 02, 2.1).
 //!
 //! # When a state is well formed
 //!
 //! Document 01: "if the procedure can reach it by fitting answers". The set-up,
 //! seat and round are those that starting lets through and never change. What
 //! is found grows by one seat at a time, by the seat just asked, with any
-//! offset but the mark: an answer fits whatever the seat itself proposed, its
-//! own seat's reading included. Call what is found *open* if fewer than n - t
-//! seats are found and no offset has t + 1 of them; the seat goes on reading
-//! exactly while that is so.
+//! offset that may be proposed (under policy 2 all but the mark, under policy 3
+//! the choices): an answer fits whatever the seat itself proposed, its own
+//! seat's reading included. Call what is found *open* if no offset has t + 1
+//! found seats and, under policy 2, fewer than n - t seats are found; the seat
+//! goes on reading exactly while that is so. An open finding leaves a seat to
+//! ask: under policy 3 each of the k choices has at most t found seats, and kt
+//! is below n.
 //!
 //! - Proposing: always reached, by starting. Nothing is found.
 //! - Reading(q): reached exactly when what is found is open and q is from 1 to
@@ -20,20 +24,22 @@
 //!   found seat, open without it. Only then: the last seat found is such a one.
 //!   Always then: find the others first, reach Reading of the last one as
 //!   above, and find it.
-//! - Decided(code): reached exactly with an offset in range or the mark, for a
-//!   held tuple may bring any of them. Nothing is kept as found.
+//! - Decided(code): reached exactly with what may be decided (under policy 2 an
+//!   offset in range or the mark, under policy 3 a choice), for a held tuple may
+//!   bring any of them, and t + 1 seats found with one offset reach Deciding.
+//!   Nothing is kept as found.
 //!
 //! Tests below compare this with an exhaustive search for small n.
 
 use crate::board::{Answer, AnswerKind, Config};
 use crate::fields::{Tuple, MOST_SEATS};
 use crate::numbers::Offset;
-use crate::policy::LAST_ROUND;
+use crate::policy::{DEFAULT, LAST_ROUND, STRONG};
 use crate::records::Call;
 use crate::refusal::Refusal;
 
-/// The policy that a seat starts under.
-const POLICY: u64 = 2;
+/// The policies that a seat starts under.
+const POLICIES: [u64; 2] = [DEFAULT, STRONG];
 
 /// Where a seat stands in its round.
 #[derive(Clone, Copy, Debug, PartialEq, Eq, Hash)]
@@ -78,13 +84,13 @@ impl Seat {
     pub fn start(config: Config, process: u32, round: u64, offset: u64) -> Result<(Seat, Call), Refusal> {
         let seat = Seat { config, process, round, phase: Phase::Proposing, found: NOTHING };
         config.check()?;
-        if config.policy != POLICY {
+        if !POLICIES.contains(&config.policy) {
             return Err(Refusal::Unsound);
         }
         if !config.has_seat(process.into()) {
             return Err(Refusal::Seat);
         }
-        if round > LAST_ROUND || offset == Offset::MARK || offset > Offset::LAST {
+        if round > LAST_ROUND || !config.may_propose(offset) {
             return Err(Refusal::Value);
         }
         let out = Call::out(process, Tuple::proposal(round, process.into(), offset));
@@ -98,24 +104,24 @@ impl Seat {
 
     fn is_well_formed(&self) -> bool {
         let started = self.config.check().is_ok()
-            && self.config.policy == POLICY
+            && POLICIES.contains(&self.config.policy)
             && self.config.has_seat(self.process.into())
             && self.round <= LAST_ROUND;
         started
             && match self.phase {
                 Phase::Proposing => self.found == NOTHING,
                 Phase::Reading(asked) => {
-                    self.found_in_range()
+                    self.found_may_be()
                         && self.goes_on()
                         && self.config.has_seat(asked.into())
                         && !self.has_found(asked)
                 }
                 Phase::Deciding => {
-                    self.found_in_range()
+                    self.found_may_be()
                         && !self.goes_on()
                         && self.seats_found().any(|last| self.with(last, 0).goes_on())
                 }
-                Phase::Decided(offset) => self.found == NOTHING && offset <= Offset::LAST,
+                Phase::Decided(offset) => self.found == NOTHING && self.config.may_decide(offset),
             }
     }
 
@@ -159,7 +165,7 @@ impl Seat {
             None => {
                 let n = self.config.n as u32;
                 let next = (asked + 1..=n).chain(1..=n).find(|q| !self.has_found(*q));
-                // Without a verdict fewer than n - t are found, so there is one.
+                // Without a verdict fewer than n are found, so there is one.
                 self.ask(next.unwrap_or(asked))
             }
         }
@@ -178,14 +184,19 @@ impl Seat {
         (seat, Step::Decision { round: self.round, offset })
     }
 
-    /// Offset and seats of the cas, if what is found is enough for one.
+    /// Offset and seats of the cas, if what is found is enough for one: an
+    /// offset with t + 1 found seats, else under policy 2 the mark, if n - t
+    /// seats are found.
     fn verdict(&self) -> Option<(u64, u64)> {
         let enough = |offset: &u64| u64::from(self.seats_with(*offset).count_ones()) > self.config.t;
         let offset = self.seats_found().filter_map(|k| self.found_of(k)).find(enough);
-        let all = self.seats_found().fold(0, |set, k| set | bit(k));
         match offset {
             Some(offset) => Some((offset, self.seats_with(offset))),
-            None if u64::from(all.count_ones()) >= self.config.n - self.config.t => Some((Offset::MARK, all)),
+            None if self.config.policy == DEFAULT => {
+                let all = self.seats_found().fold(0, |set, k| set | bit(k));
+                let many = u64::from(all.count_ones()) >= self.config.n - self.config.t;
+                many.then_some((Offset::MARK, all))
+            }
             None => None,
         }
     }
@@ -196,18 +207,21 @@ impl Seat {
     }
 
     /// The offset proposed, if this is a proposal of the asked round and seat
-    /// other than the mark, which a well-formed board can hold.
+    /// (under policy 2 any but the mark, under policy 3 a choice), which a
+    /// well-formed board can hold.
     fn proposal_in(&self, tuple: &Tuple, asked: u32) -> Option<u64> {
         let (round, seat, offset) = tuple.is_entry().then(|| tuple.as_proposal())??;
-        let fits = round == self.round && seat == u64::from(asked) && offset != Offset::MARK;
+        let fits = round == self.round && seat == u64::from(asked) && self.config.may_propose(offset);
         fits.then_some(offset)
     }
 
     /// The offset decided, if this is (word 2, the asked round, an offset or
-    /// the mark, seats in 1 to n), which a well-formed board can hold.
+    /// the mark, under policy 3 a choice, seats in 1 to n), which a well-formed
+    /// board can hold.
     fn decision_in(&self, tuple: &Tuple) -> Option<u64> {
         let (round, offset, seats) = tuple.is_entry().then(|| tuple.as_decision())??;
-        (round == self.round && seats >> self.config.n == 0).then_some(offset)
+        let fits = round == self.round && seats >> self.config.n == 0 && self.config.may_decide(offset);
+        fits.then_some(offset)
     }
 
     /// The state with this seat found to have proposed this offset; 0 for not found.
@@ -239,10 +253,12 @@ impl Seat {
         self.seats_found().filter(|k| self.found_of(*k) == Some(offset)).fold(0, |set, k| set | bit(k))
     }
 
-    /// Whether only seats from 1 to n are found, with offsets in range.
-    fn found_in_range(&self) -> bool {
-        self.seats_found().all(|k| self.config.has_seat(k.into()))
-            && self.found.iter().all(|offset| *offset <= Offset::LAST)
+    /// Whether only seats from 1 to n are found, with offsets that may be proposed.
+    fn found_may_be(&self) -> bool {
+        let may_be = |k: u32| {
+            self.config.has_seat(k.into()) && self.found_of(k).is_some_and(|w| self.config.may_propose(w))
+        };
+        self.seats_found().all(may_be)
     }
 }
 
@@ -259,7 +275,11 @@ mod tests {
     use Refusal::{Denied, Unfit, Unsound, Value};
 
     fn config(n: u64, t: u64) -> Config {
-        Config { n, t, policy: 2 }
+        Config { n, t, policy: 2, k: 0 }
+    }
+
+    fn strong(n: u64, t: u64, k: u64) -> Config {
+        Config { n, t, policy: 3, k }
     }
 
     fn proposal(round: u64, seat: u64, offset: u64) -> Answer {
@@ -289,7 +309,7 @@ mod tests {
         assert_eq!(seat.phase, Phase::Proposing);
         assert_eq!(seat.check(), Ok(()));
         let start = |n, t, policy, process, round, offset| {
-            Seat::start(Config { n, t, policy }, process, round, offset).map(|_| ())
+            Seat::start(Config { n, t, policy, k: 0 }, process, round, offset).map(|_| ())
         };
         assert_eq!(start(4, 1, 2, 4, 0, 1), Ok(()));
         assert_eq!(start(3, 1, 2, 0, 8, 0), Err(Unsound));
@@ -304,6 +324,24 @@ mod tests {
         assert_eq!(start(4, 1, 2, 4, u64::MAX, 1), Err(Value));
         assert_eq!(start(4, 1, 2, 4, 7, 0), Err(Value));
         assert_eq!(start(4, 1, 2, 4, 7, 200_002), Err(Value));
+    }
+
+    #[test]
+    fn starting_among_choices() {
+        let (seat, out) = Seat::start(strong(5, 1, 3), 2, 7, 5).unwrap();
+        assert_eq!(out, Call::out(2, Tuple::proposal(7, 2, 5)));
+        assert_eq!(seat.check(), Ok(()));
+        let start =
+            |config: Config, process, round, offset| Seat::start(config, process, round, offset).map(|_| ());
+        for offset in (0..20).chain([200_000, 200_001, 200_002, u64::MAX]) {
+            let expected = if [1, 3, 5].contains(&offset) { Ok(()) } else { Err(Value) };
+            assert_eq!(start(strong(5, 1, 3), 5, 7, offset), expected, "{offset}");
+            assert_eq!(start(strong(5, 1, 3), 5, 8, offset), Err(Value));
+            assert_eq!(start(strong(5, 1, 3), 0, 7, offset), Err(Refusal::Seat));
+            assert_eq!(start(strong(5, 1, 3), 6, 8, offset), Err(Refusal::Seat));
+            assert_eq!(start(strong(4, 1, 3), 6, 8, offset), Err(Unsound));
+            assert_eq!(start(Config { k: 3, ..config(5, 1) }, 5, 7, offset), Err(Unsound));
+        }
     }
 
     #[test]
@@ -344,6 +382,48 @@ mod tests {
                 assert_eq!(deciding.hand(&held).unwrap().1, Step::Decision { round: 0, offset });
             }
         }
+    }
+
+    #[test]
+    fn a_choice_is_read_for_until_t_plus_1_have_it() {
+        // Six found seats settle nothing, the seventh does.
+        let (seat, _) = Seat::start(strong(9, 2, 3), 5, 0, 1).unwrap();
+        let mut answers = vec![Answer::DONE, Answer::NONE];
+        for (asked, offset) in [(2, 1), (3, 3), (4, 5), (5, 1), (6, 3), (7, 5)] {
+            answers.push(proposal(0, asked, offset));
+            assert_eq!(handed(seat, &answers).1, asks(&seat, asked as u32 + 1));
+        }
+        let settled = [answers.clone(), vec![proposal(0, 8, 5)]].concat();
+        let (deciding, step) = handed(seat, &settled);
+        assert_eq!(step, offers(&seat, 5, 0b0_1100_1000));
+        assert_eq!(deciding.hand(&Answer::INSERTED).unwrap().1, Step::Decision { round: 0, offset: 5 });
+        // Round again, past the found ones.
+        answers.extend([Answer::NONE, Answer::NONE]);
+        assert_eq!(handed(seat, &answers).1, asks(&seat, 1));
+        answers.push(Answer::NONE);
+        assert_eq!(handed(seat, &answers).1, asks(&seat, 8));
+        // Whatever is held, if it is a choice, is the decision.
+        for offset in (0..10).chain([200_000, 200_001]) {
+            for seats in [0, 0x1FF] {
+                let held = Answer::held(Tuple::decision(0, offset, seats));
+                let decision = deciding.hand(&held).map(|(_, step)| step);
+                let choice = [1, 3, 5].contains(&offset);
+                let expected = if choice { Ok(Step::Decision { round: 0, offset }) } else { Err(Unfit) };
+                assert_eq!(decision, expected, "{offset}");
+            }
+        }
+    }
+
+    #[test]
+    fn proposals_of_no_choice_do_not_fit() {
+        let (proposing, _) = Seat::start(strong(5, 1, 3), 1, 3, 1).unwrap();
+        let (reading, _) = proposing.hand(&Answer::DONE).unwrap();
+        for offset in (0..10).chain([200_000, 200_001, 200_002]) {
+            let fits = reading.hand(&proposal(3, 1, offset)).map(|(_, step)| step);
+            let choice = [1, 3, 5].contains(&offset);
+            assert_eq!(fits, if choice { Ok(asks(&reading, 2)) } else { Err(Unfit) }, "{offset}");
+        }
+        assert_eq!(reading.hand(&Answer::NONE).unwrap().1, asks(&reading, 2));
     }
 
     #[test]
@@ -447,13 +527,37 @@ mod tests {
         states.push(reading.with(MOST_SEATS as u32, 9));
         states.push(reading.with(3, 200_002));
         states.push(reading.with(3, 9));
+        // The same under policy 3, where found and decided are choices.
+        let (proposing, _) = Seat::start(strong(5, 1, 3), 1, 3, 1).unwrap();
+        let (reading, _) = handed(proposing, &[Answer::DONE, proposal(3, 1, 5)]);
+        assert_eq!(reading.check(), Ok(()));
+        for k in [0, 1, 2, 4, 9, u64::MAX] {
+            states.push(Seat { config: Config { k, ..reading.config }, ..reading });
+        }
+        for policy in [0, 1, 2, 4] {
+            states.push(Seat { config: Config { policy, ..reading.config }, ..reading });
+        }
+        for offset in [2, 4, 7, 200_001, 200_002] {
+            states.push(reading.with(3, offset));
+            states.push(Seat { phase: Phase::Decided(offset), ..proposing });
+        }
+        states.push(Seat { phase: Phase::Decided(Offset::MARK), ..proposing });
+        states.push(Seat { phase: Phase::Deciding, ..reading });
+        states.push(reading.with(3, 5));
+        // Four found, and the cas hangs on the last two.
+        let deciding = Seat { phase: Phase::Deciding, ..reading.with(2, 3).with(3, 1).with(4, 1) };
+        assert_eq!(deciding.check(), Ok(()));
+        states.push(deciding.with(5, 1));
+        states.push(deciding.with(5, 3));
+        states.push(deciding.with(4, 0));
         for state in states {
             assert_eq!(state.hand(&Answer::NONE), Err(Unsound), "{state:?}");
             assert_eq!(state.hand(&Answer::DONE), Err(Unsound), "{state:?}");
         }
     }
 
-    /// All states that fitting answers reach, with these offsets alone.
+    /// All states that fitting answers reach, with these offsets alone, all of
+    /// which may be proposed.
     fn reached(config: Config, offsets: &[u64]) -> HashSet<Seat> {
         let (first, _) = Seat::start(config, 1, 0, offsets[0]).unwrap();
         let mut reached = HashSet::from([first]);
@@ -466,7 +570,8 @@ mod tests {
                     found.chain([Answer::NONE]).collect()
                 }
                 Phase::Deciding => {
-                    let held = offsets.iter().chain(&[0]).map(|w| Answer::held(Tuple::decision(0, *w, 0)));
+                    let mark = (config.policy == DEFAULT).then_some(&Offset::MARK);
+                    let held = offsets.iter().chain(mark).map(|w| Answer::held(Tuple::decision(0, *w, 0)));
                     held.chain([Answer::INSERTED]).collect()
                 }
                 Phase::Decided(_) => vec![Answer::NONE],
@@ -517,13 +622,40 @@ mod tests {
             (8, 2, &[1, 2]),
         ];
         for (n, t, offsets) in rows {
-            let reached = reached(config(n, t), offsets);
-            let all = all(config(n, t), offsets);
-            for seat in &all {
-                assert_eq!(seat.check().is_ok(), reached.contains(seat), "{seat:?}");
-            }
-            let well_formed = all.iter().filter(|seat| seat.check().is_ok()).count();
-            assert_eq!(well_formed, reached.len(), "{n} {t}");
+            well_formed_is_reached(config(n, t), offsets, &[]);
         }
+    }
+
+    #[test]
+    fn well_formed_is_reachable_among_choices() {
+        // n, t and k, and offsets that are no choices.
+        let rows: [(u64, u64, u64, &[u64]); 10] = [
+            (1, 0, 2, &[2, 5, 200_001]),
+            (1, 0, 8, &[2, 17]),
+            (2, 0, 3, &[2, 7]),
+            (3, 0, 2, &[2, 5]),
+            (4, 1, 2, &[2, 5, 200_001]),
+            (5, 1, 3, &[2, 7]),
+            (6, 1, 2, &[5]),
+            (6, 1, 4, &[]),
+            (7, 2, 2, &[2]),
+            (8, 2, 2, &[]),
+        ];
+        for (n, t, k, others) in rows {
+            let choices: Vec<u64> = (0..k).map(|choice| 1 + 2 * choice).collect();
+            well_formed_is_reached(strong(n, t, k), &choices, others);
+        }
+    }
+
+    /// Of all states with these offsets and these others, those that are well
+    /// formed are those that the offsets reach.
+    fn well_formed_is_reached(config: Config, offsets: &[u64], others: &[u64]) {
+        let reached = reached(config, offsets);
+        let all = all(config, &[offsets, others].concat());
+        for seat in &all {
+            assert_eq!(seat.check().is_ok(), reached.contains(seat), "{seat:?}");
+        }
+        let well_formed = all.iter().filter(|seat| seat.check().is_ok()).count();
+        assert_eq!(well_formed, reached.len(), "{config:?}");
     }
 }

@@ -41,6 +41,7 @@ pub struct Config {
     pub n: u64,
     pub t: u64,
     pub policy: u64,
+    pub k: u64,
 }
 
 #[repr(C)]

@@ -6,6 +6,7 @@ mod common;
 use common::*;
 use reference::board::MOST_TUPLES;
 use reference::fields::MOST_SEATS;
+use reference::policy::{DEFAULT, STRONG};
 use reference::records::record_of;
 use reference::{flat, sys};
 use reference::{Answer, AnswerKind, Board, Call, Config, Field, Kind, Offset, Phase, Refusal, Seat, Tuple};
@@ -89,14 +90,20 @@ fn records_written() {
     count("records written", inputs, format!("{sound} of calls without fault"));
 }
 
-/// Boards of both policies and of none, some with the tuples that make a base call permitted.
+/// A sound set-up of four seats, of which one may stray, under a policy.
+fn four_seats(policy: u64) -> Config {
+    Config { n: 4, t: 1, policy, k: if policy == STRONG { 2 } else { 0 } }
+}
+
+/// Boards of every policy, some with the tuples that make a base call permitted; the last of them is no choice under policy 3.
 fn base_boards() -> Vec<Board> {
     let mut boards = Vec::new();
-    for policy in 0..=2 {
-        let mut board = Board::fresh(Config { n: 4, t: 1, policy }).unwrap();
+    for policy in 0..=3 {
+        let mut board = Board::fresh(four_seats(policy)).unwrap();
         boards.push(board.clone());
-        for (k, offset) in [(1, 0x50), (2, 0x51), (3, 0x50), (4, 9)] {
-            board.tuples[board.count] = Tuple::proposal(0, k, offset);
+        let offsets = if policy == STRONG { [1, 3, 1, 2] } else { [0x50, 0x51, 0x50, 9] };
+        for (seat, offset) in (1..).zip(offsets) {
+            board.tuples[board.count] = Tuple::proposal(0, seat, offset);
             board.count += 1;
         }
         boards.push(board);
@@ -112,10 +119,12 @@ fn base_calls() -> Vec<Call> {
     let six = Tuple::of(&[Field::given(Kind::Count, 1); 6]);
     vec![
         Call::out(1, Tuple::proposal(1, 1, 0x50)),
+        Call::out(1, Tuple::proposal(1, 1, 3)),
         Call::out(2, six),
         Call::rdp(4, Tuple::proposal_template(0, 3)),
         Call::inp(4, Tuple::proposal_template(0, 3)),
         Call::cas(1, Tuple::decision_template(0), Tuple::decision(0, 0x50, 5)),
+        Call::cas(1, Tuple::decision_template(0), Tuple::decision(0, 1, 5)),
         Call::cas(1, Tuple::decision_template(0), Tuple::decision(0, 0, 11)),
         Call::cas(1, weak(None), weak(Some(3))),
         Call::cas(3, six, six),
@@ -163,12 +172,12 @@ fn calls_with_wrong_fields() {
 }
 
 /// A tuple near the policies' shapes, as no run need make it.
-fn odd_tuple(dice: &mut Dice) -> Tuple {
+fn odd_tuple(dice: &mut Dice, config: &Config) -> Tuple {
     let (round, seat) = (
         dice.pick(&[0, 0, 0, 1, 7, 8]),
         dice.pick(&[0, 1, 1, 2, 3, 4, 5, MOST_SEATS, MOST_SEATS + 1, 4_294_967_295]),
     );
-    let offset = dice.pick(&[0, 1, 2, 3, 3, 3, 200_001]);
+    let offset = near_offset(dice, config);
     match dice.below(8) {
         0 => good_tuple(dice, true),
         1 => Tuple::decision(round, offset, dice.pick(&[0, 1, 3, 15, 31, Kind::Seats.last()])),
@@ -186,16 +195,30 @@ fn odd_tuple(dice: &mut Dice) -> Tuple {
     }
 }
 
+/// The seats under whose numbers an offset stands in a round; for the mark, those under whose numbers anything does.
+fn bearers(board: &Board, round: u64, offset: u64) -> u64 {
+    let stands = |(r, seat, w): &(u64, u64, u64)| {
+        *r == round && (1..=MOST_SEATS).contains(seat) && (*w == offset || offset == Offset::MARK)
+    };
+    let standing = board.held().iter().filter_map(Tuple::as_proposal).filter(stands);
+    standing.fold(0, |set, (_, seat, _)| set | 1 << (seat - 1))
+}
+
 /// A call that aims at such tuples.
-fn aimed_call(dice: &mut Dice, n: u64) -> Call {
-    let seat =
-        if dice.one_in(10) { dice.pick(&SEATS) } else { 1 + dice.below(n.clamp(1, MOST_SEATS)) as u32 };
-    let (round, offset) = (dice.pick(&[0, 0, 0, 1, 7, 8]), dice.pick(&[0, 0, 1, 2, 3, 3]));
+fn aimed_call(dice: &mut Dice, board: &Board) -> Call {
+    let n = board.config.n.clamp(1, MOST_SEATS);
+    let seat = if dice.one_in(10) { dice.pick(&SEATS) } else { 1 + dice.below(n) as u32 };
+    let (round, offset) = (dice.pick(&[0, 0, 0, 1, 7, 8]), near_offset(dice, &board.config));
     let own = if dice.one_in(6) { dice.below(MOST_SEATS + 2) } else { seat.into() };
-    let bits = if dice.one_in(8) { MOST_SEATS } else { n.clamp(1, MOST_SEATS) };
-    let set = dice.below(1 << bits);
-    let entry = odd_tuple(dice);
-    let mut template = odd_tuple(dice);
+    let within = (1 << if dice.one_in(8) { MOST_SEATS } else { n }) - 1;
+    // Any set, or those that bear the offset, at times with one seat more or fewer.
+    let set = match dice.below(6) {
+        0 => dice.below(1 << MOST_SEATS),
+        1 | 2 => bearers(board, round, offset) ^ 1 << dice.below(n),
+        _ => bearers(board, round, offset),
+    } & within;
+    let entry = odd_tuple(dice, &board.config);
+    let mut template = odd_tuple(dice, &board.config);
     for field in &mut template.fields[..template.count] {
         if dice.one_in(2) {
             *field = Field { state: 1 + dice.below(2) as u8, value: 0, ..*field };
@@ -215,11 +238,14 @@ fn aimed_call(dice: &mut Dice, n: u64) -> Call {
 fn boards_that_no_run_makes() {
     let mut dice = Dice::new(4);
     let (mut inputs, mut outcomes) = (0, [0usize; 12]);
-    for _ in 0..30_000 {
+    // Decisions that are inserted or held under policies 2 and 3.
+    let mut decisions = [0usize; 2];
+    for _ in 0..36_000 {
         let config = if dice.one_in(8) {
             odd_config(&mut dice)
         } else {
-            Config { policy: dice.pick(&[0, 1, 2, 2, 2]), ..config(&mut dice) }
+            let (n, policy) = (1 + dice.below(MOST_SEATS), dice.pick(&[0, 1, 2, 2, 2, 3, 3, 3]));
+            config_of(&mut dice, n, policy)
         };
         let mut board = Board { config, count: 0, tuples: [Tuple::BLANK; MOST_TUPLES] };
         let held = match dice.below(6) {
@@ -229,7 +255,7 @@ fn boards_that_no_run_makes() {
             _ => dice.below(24) as usize,
         };
         for place in 0..held {
-            board.tuples[place] = odd_tuple(&mut dice);
+            board.tuples[place] = odd_tuple(&mut dice, &config);
         }
         board.count = held;
         // What is not well formed: a count that is not the tuples', a dirty place, a field out of range.
@@ -251,16 +277,21 @@ fn boards_that_no_run_makes() {
             }
         }
         for _ in 0..2 {
-            let call = aimed_call(&mut dice, config.n);
+            let call = aimed_call(&mut dice, &board);
             let answer = compare_call(&mut board, &call);
             outcomes[match answer.kind {
                 AnswerKind::Refused(refusal) => refusal.number() as usize,
                 _ => 0,
             }] += 1;
+            if matches!(answer.kind, AnswerKind::Inserted | AnswerKind::Held) && config.policy >= DEFAULT {
+                decisions[usize::from(config.policy == STRONG)] += 1;
+            }
             inputs += 1;
         }
     }
     count("calls on boards that no run makes", inputs, format!("answered, refused 1 to 11: {outcomes:?}"));
+    println!("         inserted or held under policies 2 and 3: {decisions:?}");
+    assert!(decisions.iter().all(|decided| *decided > 200), "{decisions:?}");
 }
 
 /// How many tuples the boards hold that are then made dirty.
@@ -272,7 +303,7 @@ fn boards_with_dirty_places() {
     let mut dice = Dice::new(12);
     let mut inputs = 0;
     let mut try_board = |dice: &mut Dice, mut board: Board| {
-        let mut call = aimed_call(dice, board.config.n);
+        let mut call = aimed_call(dice, &board);
         if dice.one_in(4) {
             let part = dice.below(PARTS);
             spoil(dice, &mut call, part);
@@ -282,9 +313,10 @@ fn boards_with_dirty_places() {
         assert!(board == before, "a refused call changed the board");
         inputs += 1;
     };
-    for (policy, held) in (0..=2).flat_map(|policy| HELD.map(|held| (policy, held))) {
-        let mut clean = Board::fresh(Config { n: 4, t: 1, policy }).unwrap();
-        clean.tuples[..held].fill_with(|| odd_tuple(&mut dice));
+    for (policy, held) in (0..=3).flat_map(|policy| HELD.map(|held| (policy, held))) {
+        let config = four_seats(policy);
+        let mut clean = Board::fresh(config).unwrap();
+        clean.tuples[..held].fill_with(|| odd_tuple(&mut dice, &config));
         clean.count = held;
         assert_eq!(clean.check(), Ok(()));
         for place in 0..MOST_TUPLES {
@@ -299,40 +331,57 @@ fn boards_with_dirty_places() {
                 try_board(&mut dice, Board { count, ..clean.clone() });
             }
         }
+        // Another k, or a policy to which this k does not belong.
+        for k in CHOICES.into_iter().filter(|k| *k != config.k) {
+            try_board(&mut dice, Board { config: Config { k, ..config }, ..clean.clone() });
+        }
+        let strange = |other: &u64| *other > STRONG || (*other == STRONG) != (policy == STRONG);
+        for policy in POLICIES.into_iter().filter(strange) {
+            try_board(&mut dice, Board { config: Config { policy, ..config }, ..clean.clone() });
+        }
     }
     count("calls on boards with one dirty number", inputs, "each refused 1, the board as it was".into());
 }
 
+/// Offsets at the bounds of their range and of the choices, and beyond.
+fn offsets_to_start_with() -> Vec<Offset> {
+    let numbers = [0, 1, 2, 3, 7, 8, 9, -1, -2, -8, 100_000, -100_000, 100_001, -100_001, i32::MAX, i32::MIN];
+    numbers.into_iter().map(|z| Offset::Number(z.into())).chain([Offset::Mark]).collect()
+}
+
 #[test]
 fn seats_started() {
-    let third = u64::MAX / 3;
-    let mut inputs = 0;
-    let mut started = 0;
-    for n in [0, 1, 3, 4, MOST_SEATS, MOST_SEATS + 1, u64::MAX] {
-        for t in [0, 1, 4, 5, third, third + 1, u64::MAX] {
-            for policy in [0, 1, 2, 3, u64::MAX] {
-                for process in [0, 1, 4, 5, MOST_SEATS as u32, MOST_SEATS as u32 + 1, u32::MAX] {
-                    for round in [0, 7, 8, u64::MAX] {
-                        let numbers = [0, 1, -1, 100_000, -100_000, 100_001, -100_001, i32::MAX, i32::MIN];
-                        let offsets = numbers.map(|z| Offset::Number(z.into()));
-                        for offset in offsets.into_iter().chain([Offset::Mark]) {
-                            let config = Config { n, t, policy };
-                            started += usize::from(compare_start(config, process, round, offset).is_ok());
-                            inputs += 1;
-                        }
-                    }
+    let all = offsets_to_start_with();
+    let (mut inputs, mut started) = (0, [0usize; 2]);
+    for config in every_config() {
+        // A set-up that is not sound is refused 1 whatever else is handed in: a few will do.
+        let sound = config.check().is_ok();
+        let processes: &[u32] =
+            if sound { &[0, 1, 4, 5, MOST_SEATS as u32, MOST_SEATS as u32 + 1, u32::MAX] } else { &[0, 1] };
+        let rounds: &[u64] = if sound { &[0, 7, 8, u64::MAX] } else { &[0, 8] };
+        let offsets: &[Offset] =
+            if sound { &all } else { &[Offset::Number(0), Offset::Number(2), Offset::Mark] };
+        for process in processes {
+            for round in rounds {
+                for offset in offsets {
+                    let starts = compare_start(config, *process, *round, *offset).is_ok();
+                    started[usize::from(config.policy == STRONG)] += usize::from(starts);
+                    inputs += 1;
                 }
             }
         }
     }
-    count("seats started at every bound", inputs, format!("{started} start"));
+    count("seats started at every bound", inputs, format!("start under policies 2 and 3: {started:?}"));
 }
 
+/// How many seats the states have.
+const SIZES: [u64; 12] = [1, 2, 3, 4, 4, 4, 5, 7, 9, 10, 13, MOST_SEATS];
+
 /// A state of any phase: near what the procedure reaches, or any.
-fn state(dice: &mut Dice) -> Seat {
-    let n = dice.pick(&[1, 2, 3, 4, 4, 4, 5, 7, 10, MOST_SEATS]);
-    let t = dice.below((n - 1) / 3 + 1);
-    let mut config = Config { n, t, policy: 2 };
+fn any_state(dice: &mut Dice) -> Seat {
+    let (n, policy) = (dice.pick(&SIZES), dice.pick(&[DEFAULT, STRONG]));
+    let mut config = config_of(dice, n, policy);
+    let k = config.k;
     if dice.one_in(20) {
         config = odd_config(dice);
     }
@@ -343,22 +392,37 @@ fn state(dice: &mut Dice) -> Seat {
     if dice.one_in(20) {
         round = dice.pick(&VALUES);
     }
-    // Found seats: few offsets, so that they meet; seldom out of range or behind n.
+    // Found seats: few offsets, so that they meet; seldom out of range, no choice or behind n.
     let mut found = [0; MOST_SEATS as usize];
     let share = dice.below(4);
     for place in &mut found[..n as usize] {
         if dice.below(4) < share {
-            *place = 1 + dice.below(3);
+            *place = likely_offset(dice, &config);
         }
     }
     if dice.one_in(12) {
-        found[dice.below(MOST_SEATS) as usize] = dice.pick(&[0, 1, 200_000, 200_001, 200_002, u64::MAX]);
+        found[dice.below(MOST_SEATS) as usize] =
+            dice.pick(&[0, 1, 2, 2 * k, 1 + 2 * k, 200_000, 200_001, 200_002, u64::MAX]);
     }
     let phase = match dice.below(10) {
         0 => Phase::Proposing,
         1..=4 => Phase::Reading(if dice.one_in(8) { dice.pick(&SEATS) } else { 1 + dice.below(n) as u32 }),
         5..=8 => Phase::Deciding,
-        _ => Phase::Decided(dice.pick(&[0, 1, 3, 200_000, 200_001, 200_002, u64::MAX])),
+        _ => {
+            let last = (1 + 2 * k).saturating_sub(2);
+            Phase::Decided(dice.pick(&[
+                0,
+                1,
+                3,
+                last,
+                last + 1,
+                last + 2,
+                200_000,
+                200_001,
+                200_002,
+                u64::MAX,
+            ]))
+        }
     };
     if matches!(phase, Phase::Proposing | Phase::Decided(_)) && !dice.one_in(6) {
         found.fill(0);
@@ -371,9 +435,71 @@ fn state(dice: &mut Dice) -> Seat {
     Seat { config, process, round, phase, found }
 }
 
+/// A state that the procedure reaches, of any phase; every step to it by both.
+fn reached_state(dice: &mut Dice) -> Seat {
+    let (n, policy) = (dice.pick(&SIZES), dice.pick(&[DEFAULT, STRONG]));
+    let config = config_of(dice, n, policy);
+    let (process, round) = (1 + dice.below(n) as u32, dice.below(8));
+    let offset = likely_offset(dice, &config);
+    let offset = Offset::from_travelling(offset).expect("an offset in range");
+    let (mut seat, _) = compare_start(config, process, round, offset).expect("a seat that may start");
+    for _ in 0..dice.below(n + 4) {
+        let answer = fitting_answer(dice, &seat);
+        (seat, _) = compare_hand(&seat, &answer).expect("a fitting answer");
+    }
+    seat
+}
+
+/// An answer that fits a state that the procedure reaches.
+fn fitting_answer(dice: &mut Dice, seat: &Seat) -> Answer {
+    let offset = likely_offset(dice, &seat.config);
+    match seat.phase {
+        Phase::Proposing => Answer::DONE,
+        Phase::Reading(_) if dice.one_in(4) => Answer::NONE,
+        Phase::Reading(asked) => Answer::found(Tuple::proposal(seat.round, asked.into(), offset)),
+        Phase::Deciding if dice.one_in(2) => Answer::INSERTED,
+        Phase::Deciding | Phase::Decided(_) => {
+            Answer::held(Tuple::decision(seat.round, offset, dice.below(1 << seat.config.n)))
+        }
+    }
+}
+
+/// Gives one part of a state another value.
+fn change_state(dice: &mut Dice, seat: &mut Seat) {
+    let Config { n, t, k, .. } = seat.config;
+    match dice.below(8) {
+        0 => seat.config.n = dice.pick(&[n - 1, n + 1]),
+        1 => seat.config.t = dice.pick(&[t.saturating_sub(1), t + 1, u64::MAX]),
+        2 => seat.config.policy = dice.pick(&POLICIES),
+        3 => {
+            seat.config.k =
+                if dice.one_in(2) { dice.pick(&CHOICES) } else { dice.pick(&[k + 1, k.max(1) - 1]) }
+        }
+        4 => seat.phase = dice.pick(&[Phase::Proposing, Phase::Deciding]),
+        5 => seat.phase = Phase::Reading(dice.below(n + 2) as u32),
+        6 => seat.phase = Phase::Decided(near_offset(dice, &seat.config)),
+        _ => {
+            let offset = if dice.one_in(3) { 0 } else { near_offset(dice, &seat.config) };
+            seat.found[dice.below(MOST_SEATS) as usize] = offset;
+        }
+    }
+}
+
+/// A state: reached, reached and then changed in one part, or any.
+fn state(dice: &mut Dice) -> Seat {
+    if dice.one_in(2) {
+        return any_state(dice);
+    }
+    let mut seat = reached_state(dice);
+    if dice.one_in(2) {
+        change_state(dice, &mut seat);
+    }
+    seat
+}
+
 /// An answer that fits the state, nearly fits it, or is any.
 fn answer(dice: &mut Dice, seat: &Seat) -> Answer {
-    let offset = dice.pick(&[0, 1, 2, 3, 3, 200_001]);
+    let offset = near_offset(dice, &seat.config);
     let asked = if let Phase::Reading(asked) = seat.phase { asked } else { 1 };
     let bits = if dice.one_in(6) { MOST_SEATS + 1 } else { seat.config.n.clamp(1, MOST_SEATS) };
     let set = dice.below(1 << bits);
@@ -406,9 +532,10 @@ fn answer(dice: &mut Dice, seat: &Seat) -> Answer {
 #[test]
 fn states_and_answers() {
     let mut dice = Dice::new(5);
-    let (mut inputs, mut results) = (0, [0usize; 3]);
+    let (mut inputs, mut results) = (0, [[0usize; 3]; 2]);
     for _ in 0..60_000 {
         let mut seat = state(&mut dice);
+        let results = &mut results[usize::from(seat.config.policy == STRONG)];
         // Onward from it, as long as answers fit.
         for _ in 0..3 {
             let answer = answer(&mut dice, &seat);
@@ -427,7 +554,9 @@ fn states_and_answers() {
             }
         }
     }
-    count("states and answers handed", inputs, format!("goes on, refused 1, refused 11: {results:?}"));
+    let [others, strong] = results;
+    let note = format!("goes on, refused 1, refused 11: {others:?}, under policy 3 {strong:?}");
+    count("states and answers handed", inputs, note);
 }
 
 /// Numbers that stand for no phase, no outcome or no refusal, and values beside a phase that has none.
@@ -475,12 +604,16 @@ fn numbers_that_are_no_case() {
 fn set_ups_of_scripts() {
     let mut dice = Dice::new(7);
     let mut inputs = 0;
-    let numbers: [&[u8]; 16] = [
+    let numbers: [&[u8]; 20] = [
         &[0],
         &[1],
         &[2],
         &[3],
         &[4],
+        &[8],
+        &[9],
+        &[10],
+        &[MOST_SEATS as u8 - 1],
         &[MOST_SEATS as u8],
         &[MOST_SEATS as u8 + 1],
         &[0x7F],
@@ -496,10 +629,14 @@ fn set_ups_of_scripts() {
     for n in numbers {
         for t in numbers {
             for policy in numbers {
-                let script: Vec<u8> = [n, t, policy].concat();
-                let buffer = vec![0xA5; dice.pick(&[0, 9, 10, 11, 24, 25, 26, 60])];
-                _ = compare_script(&script, &buffer);
-                inputs += 1;
+                // Behind policy 3 stands k; behind another, the same bytes are a record that ends too early.
+                let fourth: &[&[u8]] = if policy == [3] { &numbers } else { &[&[], &[2], &[0x80, 0]] };
+                for k in fourth {
+                    let script: Vec<u8> = [n, t, policy, *k].concat();
+                    let buffer = vec![0xA5; dice.pick(&[0, 9, 10, 11, 24, 25, 26, 60])];
+                    _ = compare_script(&script, &buffer);
+                    inputs += 1;
+                }
             }
         }
     }
@@ -518,23 +655,17 @@ fn set_ups_of_scripts() {
 /// A blank space stands beside a refused set-up.
 #[test]
 fn fresh_boards() {
-    let mut inputs = 0;
-    let third = u64::MAX / 3;
-    for n in (0..=MOST_SEATS + 2).chain([u64::MAX]) {
-        for t in (0..=6).chain([third, third + 1, u64::MAX]) {
-            for policy in [0, 1, 2, 3, u64::MAX] {
-                let config = Config { n, t, policy };
-                let ours = sys::fresh(flat::config(&config));
-                let blank =
-                    Board { config: Config::default(), count: 0, tuples: [Tuple::BLANK; MOST_TUPLES] };
-                let (refusal, board) = match Board::fresh(config) {
-                    Ok(board) => (0, board),
-                    Err(refusal) => (refusal.number(), blank),
-                };
-                assert_eq!(ours, sys::Opened { refusal, space: flat::space(&board) });
-                inputs += 1;
-            }
-        }
+    let (mut inputs, mut sound) = (0, 0);
+    let blank = Board { config: Config::default(), count: 0, tuples: [Tuple::BLANK; MOST_TUPLES] };
+    for config in every_config() {
+        let ours = sys::fresh(flat::config(&config));
+        let (refusal, board) = match Board::fresh(config) {
+            Ok(board) => (0, board),
+            Err(refusal) => (refusal.number(), blank.clone()),
+        };
+        assert_eq!(ours, sys::Opened { refusal, space: flat::space(&board) }, "{config:?}");
+        inputs += 1;
+        sound += usize::from(refusal == 0);
     }
-    count("fresh boards", inputs, String::new());
+    count("fresh boards", inputs, format!("{sound} of sound set-ups"));
 }

@@ -1,12 +1,14 @@
-//! Demand 3 on random runs: following seats, strays that call anything, any
-//! order. And the record reader on random bytes.
+//! Demand 3 on random runs under policies 2 and 3: following seats, strays that
+//! call anything, any order. And the record reader on random bytes.
 
 use std::collections::HashMap;
 
 use reference::fields::MOST_SEATS;
-use reference::policy::LAST_ROUND;
+use reference::policy::{DEFAULT, LAST_ROUND, STRONG};
 use reference::records::{read_record, record_of};
-use reference::{Answer, AnswerKind, Board, Call, Config, Field, Kind, Offset, Phase, Seat, Step, Tuple};
+use reference::{
+    Answer, AnswerKind, Board, Call, Config, Field, Kind, Offset, Phase, Refusal, Seat, Step, Tuple,
+};
 
 /// A small generator of numbers (xorshift).
 struct Dice(u64);
@@ -23,14 +25,19 @@ impl Dice {
         self.below(many) == 0
     }
 
-    fn offset(&mut self, choices: u64) -> u64 {
-        1 + self.below(choices)
+    fn pick(&mut self, choices: &[u64]) -> u64 {
+        choices[self.below(choices.len() as u64) as usize]
     }
 }
 
-/// What a stray calls: mostly near the policy's forms, at times spoilt.
-fn stray_call(dice: &mut Dice, process: u32, n: u64, round: u64, choices: u64) -> Call {
-    let offset = if dice.one_in(3) { Offset::MARK } else { dice.offset(choices) };
+/// What a stray calls: mostly near the policy's forms, at times spoilt. Its
+/// offset is one of these, the mark, or some other.
+fn stray_call(dice: &mut Dice, process: u32, n: u64, round: u64, offsets: &[u64]) -> Call {
+    let offset = match dice.below(6) {
+        0 | 1 => Offset::MARK,
+        2 => dice.below(20),
+        _ => dice.pick(offsets),
+    };
     let seat = if dice.one_in(4) { dice.below(n + 2) } else { process.into() };
     let seats = dice.below(1 << n);
     let template = Tuple::decision_template(round);
@@ -99,12 +106,22 @@ impl Record {
     }
 }
 
-/// Makes one run; gives the number of rounds decided in it.
-fn run(dice: &mut Dice) -> usize {
+/// A sound set-up under policy 2 or 3, and what its following seats propose.
+fn set_up(dice: &mut Dice, policy: u64) -> (Config, Vec<u64>) {
     let n = 1 + dice.below(MOST_SEATS);
-    let t = dice.below((n - 1) / 3 + 1);
-    let config = Config { n, t, policy: 2 };
-    let choices = 1 + dice.below(4);
+    if policy == DEFAULT {
+        let t = dice.below((n - 1) / 3 + 1);
+        return (Config { n, t, policy, k: 0 }, (1..=1 + dice.below(4)).collect());
+    }
+    let k = dice.pick(&[2, 2, 3, 3, 4, 5, 6, 7, 8]);
+    let t = dice.below((n - 1) / (k + 1) + 1);
+    (Config { n, t, policy, k }, (0..=dice.below(k)).map(|choice| 1 + 2 * choice).collect())
+}
+
+/// Makes one run; gives the number of rounds decided in it.
+fn run(dice: &mut Dice, policy: u64) -> usize {
+    let (config, offsets) = set_up(dice, policy);
+    let Config { n, t, k, .. } = config;
     let mut board = Board::fresh(config).unwrap();
     let mut record = Record::default();
     // At most t seats stray; the others follow.
@@ -118,9 +135,10 @@ fn run(dice: &mut Dice) -> usize {
         let process = dice.below(n + 2);
         let Some((round, follower)) = followers.get_mut(&process) else {
             let round = dice.below(10);
-            let call = stray_call(dice, process as u32, n, round, choices);
+            let call = stray_call(dice, process as u32, n, round, &offsets);
             let before = board.clone();
             let answer = Answer::from(board.call(&call));
+            assert_ne!(answer, Answer::from(Refusal::Full));
             if matches!(answer.kind, AnswerKind::Refused(_)) {
                 assert_eq!(board, before);
             }
@@ -136,7 +154,7 @@ fn run(dice: &mut Dice) -> usize {
             continue;
         }
         if follower.is_none() {
-            let offset = dice.offset(choices);
+            let offset = dice.pick(&offsets);
             let (seat, out) = Seat::start(config, process as u32, *round, offset).unwrap();
             record.proposed.entry(*round).or_default().push(offset);
             *follower = Some(Follower { seat, due: Some(out), since: None });
@@ -175,7 +193,10 @@ fn run(dice: &mut Dice) -> usize {
     let decided = record.decisions.len();
     for (round, offset) in &record.decisions {
         let proposed = &record.proposed[round];
-        assert!(*offset == Offset::MARK || proposed.contains(offset));
+        assert!((policy == DEFAULT && *offset == Offset::MARK) || proposed.contains(offset));
+        if policy == STRONG {
+            assert!(offset % 2 == 1 && *offset < 2 * k, "a decision that is no choice");
+        }
         if proposed.iter().all(|other| *other == proposed[0]) {
             assert_eq!(*offset, proposed[0]);
         }
@@ -186,19 +207,22 @@ fn run(dice: &mut Dice) -> usize {
 #[test]
 fn runs_with_strays() {
     let mut dice = Dice(0x9E37_79B9_7F4A_7C15);
-    let decided: usize = (0..150).map(|_| run(&mut dice)).sum();
-    assert!(decided > 300, "{decided}");
+    for policy in [DEFAULT, STRONG] {
+        let decided: usize = (0..150).map(|_| run(&mut dice, policy)).sum();
+        assert!(decided > 300, "{decided} under policy {policy}");
+    }
 }
 
 #[test]
 fn a_record_that_reads_is_the_only_one() {
     let mut dice = Dice(0x0123_4567_89AB_CDEF);
     let likely = [0, 1, 2, 3, 4, 5, 6, 8, 9, 10, 12, 13, 14, 16, 17, 18, 0x80, 0x81, 0xFF];
+    let offsets: Vec<u64> = (1..=100).collect();
     let (mut read, mut refused) = (0, 0);
     for _ in 0..50_000 {
         // A record, or nothing, with a few bytes changed and a few appended.
         let round = dice.below(8);
-        let call = stray_call(&mut dice, 300, 4, round, 100);
+        let call = stray_call(&mut dice, 300, 4, round, &offsets);
         let mut bytes = record_of(&call).unwrap_or_default();
         for _ in 0..dice.below(3) {
             let place = dice.below(bytes.len() as u64 + 1) as usize;

@@ -1,5 +1,6 @@
 //! Whole runs by both, call by call and as scripts: following seats, driven by the procedure, among strays that aim at the decision.
-//! On each run demand 3's four properties are checked: agreement, validity, unanimity, a decision within n + 1 calls.
+//! On each run under policies 2 and 3 demand 3's four properties are checked: agreement, validity, unanimity, a decision within n + 1
+//! calls. Under policy 3 every decision is a choice.
 
 mod common;
 
@@ -7,8 +8,11 @@ use std::collections::{BTreeMap, HashMap};
 
 use common::*;
 use reference::fields::MOST_SEATS;
+use reference::policy::{DEFAULT, STRONG};
 use reference::records::record_of;
-use reference::{Answer, AnswerKind, Board, Call, Config, Field, Kind, Offset, Phase, Seat, Step, Tuple};
+use reference::{
+    Answer, AnswerKind, Board, Call, Config, Field, Kind, Offset, Phase, Refusal, Seat, Step, Tuple,
+};
 
 /// A following seat: the rounds it will take, and the one it is in.
 struct Follower {
@@ -51,7 +55,10 @@ struct Run {
 impl Run {
     fn new(config: Config) -> Run {
         let board = Board::fresh(config).unwrap();
-        let script = vec![config.n as u8, config.t as u8, config.policy as u8];
+        let mut script = vec![config.n as u8, config.t as u8, config.policy as u8];
+        if config.policy == STRONG {
+            script.push(config.k as u8);
+        }
         Run {
             config,
             board,
@@ -86,7 +93,10 @@ impl Run {
             _ => {}
         }
         assert_eq!(self.board.count, self.held, "tuples held are done outs plus inserted less found by inp");
-        if self.config.policy == 2 {
+        if self.config.policy > 0 {
+            assert_ne!(answer, Answer::from(Refusal::Full), "no place from a fresh board");
+        }
+        if self.config.policy >= DEFAULT {
             self.note(call, &answer);
         }
         answer
@@ -145,7 +155,9 @@ impl Run {
                 .map(|(_, offset)| *offset)
                 .collect();
             assert!(!by_following.is_empty(), "a decision without a following seat's proposal");
-            assert!(*offset == Offset::MARK || by_following.contains(offset), "validity");
+            let strong = self.config.policy == STRONG;
+            assert!((*offset == Offset::MARK && !strong) || by_following.contains(offset), "validity");
+            assert!(!strong || (offset % 2 == 1 && *offset < 2 * self.config.k), "a choice");
             if by_following.iter().all(|other| *other == by_following[0]) {
                 assert_eq!(*offset, by_following[0], "unanimity");
             }
@@ -157,12 +169,12 @@ impl Run {
 }
 
 /// What a stray calls that aims at a round: it races the decision, forges a set, or equivocates.
-fn stray_call(dice: &mut Dice, run: &Run, process: u32, round: u64, choices: u64) -> Call {
+fn stray_call(dice: &mut Dice, run: &Run, process: u32, round: u64, offsets: &[u64]) -> Call {
     let (n, t) = (run.config.n, run.config.t);
     let none = BTreeMap::new();
     let proposed = run.proposed.get(&round).unwrap_or(&none);
     let set = |seats: &mut dyn Iterator<Item = u64>| seats.fold(0, |set, seat| set | 1 << (seat - 1));
-    let offset = 1 + dice.below(choices + 1);
+    let offset = if dice.one_in(4) { no_choice(dice, run.config.k) } else { dice.pick(offsets) };
     let cas = |offset, seats| {
         Call::cas(process, Tuple::decision_template(round), Tuple::decision(round, offset, seats))
     };
@@ -209,11 +221,20 @@ fn stray_call(dice: &mut Dice, run: &Run, process: u32, round: u64, choices: u64
     call
 }
 
-fn run_of_default(dice: &mut Dice, counts: &mut Counts) {
+/// What the following seats of a run propose.
+fn offsets(dice: &mut Dice, config: &Config) -> Vec<u64> {
+    match config.policy {
+        STRONG => (0..=dice.below(config.k)).map(|choice| 1 + 2 * choice).collect(),
+        // 7, -7, 0, 100,000.
+        _ => [15, 14, 1, 200_001][..=dice.below(4) as usize].to_vec(),
+    }
+}
+
+fn run_of_seats(dice: &mut Dice, policy: u64, counts: &mut Counts) {
     let n = 1 + dice.below(MOST_SEATS);
-    let t = if dice.one_in(3) { dice.below((n - 1) / 3 + 1) } else { (n - 1) / 3 };
-    let mut run = Run::new(Config { n, t, policy: 2 });
-    let choices = 1 + dice.below(4);
+    let mut run = Run::new(config_of(dice, n, policy));
+    let t = run.config.t;
+    let offsets = offsets(dice, &run.config);
     let mut strays: Vec<u64> = (1..=n).collect();
     for place in (1..strays.len()).rev() {
         strays.swap(place, dice.below(place as u64 + 1) as usize);
@@ -240,7 +261,7 @@ fn run_of_default(dice: &mut Dice, counts: &mut Counts) {
             let busy: Vec<u64> =
                 followers.values().filter_map(|f| f.now.as_ref().map(|now| now.seat.round)).collect();
             let round = if busy.is_empty() || dice.one_in(6) { dice.below(10) } else { dice.pick(&busy) };
-            let call = stray_call(dice, &run, process as u32, round, choices);
+            let call = stray_call(dice, &run, process as u32, round, &offsets);
             let answer = run.call(&call, counts);
             if !(1..=n).contains(&process) {
                 assert!(refused(&answer));
@@ -253,9 +274,8 @@ fn run_of_default(dice: &mut Dice, counts: &mut Counts) {
                 let Some(round) = follower.rounds.pop() else {
                     continue;
                 };
-                let z = [7, -7, 0, 100_000, -100_000][dice.below(choices) as usize];
-                let (seat, due) =
-                    compare_start(run.config, process as u32, round, Offset::Number(z)).unwrap();
+                let offset = Offset::from_travelling(dice.pick(&offsets)).expect("an offset in range");
+                let (seat, due) = compare_start(run.config, process as u32, round, offset).unwrap();
                 Now { seat, due, since: 0 }
             }
         };
@@ -291,7 +311,8 @@ fn run_of_default(dice: &mut Dice, counts: &mut Counts) {
 
 /// Policies 0 and 1: calls that meet each other, on few values.
 fn run_of_others(dice: &mut Dice, counts: &mut Counts) {
-    let mut run = Run::new(Config { policy: dice.below(2), ..config(dice) });
+    let (n, policy) = (1 + dice.below(MOST_SEATS), dice.below(2));
+    let mut run = Run::new(config_of(dice, n, policy));
     let field = |dice: &mut Dice, entry: bool| {
         let kind = dice.pick(&[Kind::Count, Kind::Count, Kind::Word, Kind::Offset]);
         match dice.below(if entry { 2 } else { 4 }) {
@@ -325,27 +346,36 @@ fn run_of_others(dice: &mut Dice, counts: &mut Counts) {
                 _ => Call::cas(seat, tuple(dice, false), tuple(dice, true)),
             }
         };
-        let answer = run.call(&call, counts);
-        if run.config.policy == 1 {
-            assert!(!matches!(answer.kind, AnswerKind::Refused(refusal) if refusal.number() == 8));
-        }
+        run.call(&call, counts);
     }
     run.script(dice, counts);
 }
 
-#[test]
-fn runs_under_policy_2() {
-    let mut dice = Dice::new(11);
+/// So many runs under a policy, and what was counted in them.
+fn runs_under(policy: u64, seed: u64, runs: usize) -> Counts {
+    let mut dice = Dice::new(seed);
     let mut counts = Counts::default();
-    for _ in 0..160 {
-        run_of_default(&mut dice, &mut counts);
+    for _ in 0..runs {
+        run_of_seats(&mut dice, policy, &mut counts);
     }
     let Counts { calls, handings, scripts, decided, marks, raced, refused } = counts;
-    println!("compared {calls:>7} calls of 160 runs under policy 2: {refused} refused");
+    println!("compared {calls:>7} calls of {runs} runs under policy {policy}: {refused} refused");
     println!("         {decided:>7} rounds decided: {marks} with the mark, {raced} by a stray's cas");
     println!("compared {handings:>7} answers handed to following seats");
     println!("compared {scripts:>7} scripts of these runs, whole, damaged, into short buffers");
+    counts
+}
+
+#[test]
+fn runs_under_policy_2() {
+    let Counts { decided, marks, raced, .. } = runs_under(DEFAULT, 11, 160);
     assert!(decided > 300 && marks > 30 && raced > 30, "{decided} {marks} {raced}");
+}
+
+#[test]
+fn runs_under_policy_3() {
+    let Counts { decided, marks, raced, .. } = runs_under(STRONG, 13, 80);
+    assert!(decided > 150 && marks == 0 && raced > 15, "{decided} {marks} {raced}");
 }
 
 #[test]

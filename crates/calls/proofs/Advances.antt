@@ -1,4 +1,4 @@
--- Under policies 1 and 2 every tuple of a run is a proposal or a decision, no two have one key, and so a call that puts one finds room.
+-- Under policies 1 to 3 every tuple of a run is a proposal or a decision, no two have one key, and so a call that puts one finds room.
 use mathlib.Core.Path.{_≡_, sym, _∙_}
 use mathlib.Core.Logic.{_⊎_, inl, inr, ⊎-elim}
 use Prim.Native.Nat.{ℕ, _+_, _*_, _≤_, _<_}

@@ -1,4 +1,4 @@
--- What a call does under policies 1 and 2: nothing changes, or a proposal or a decision is put that the policy asks for.
+-- What a call does under policies 1 to 3: nothing changes, or a proposal or a decision is put that the policy asks for.
 use mathlib.Core.Path.{_≡_, refl, sym, _∙_}
 use Prim.Native.Nat.{ℕ, _≤_, _<_}
 use native.Mathlib.Omega.{arith}
@@ -18,19 +18,19 @@ use Rattle.calls.proofs.CallSteps.Puts.{by-out, by-cas}
 use Rattle.calls.proofs.CallSteps.Moves.{adds, reads, lacks, keeps, takes}
 use Rattle.calls.proofs.CallSteps.Steps.{refuses, denies, obeys}
 use Rattle.policy.specs.declared.verdicts.Verdict.the-variants.{Permit}
-use Rattle.policy.specs.Laws.{WeakCall, DecisionCall}
+use Rattle.policy.specs.Laws.{WeakCall}
 use Rattle.policy.specs.Policies.{verdictOn}
 use Rattle.policy.specs.Shapes.{decidedCode, setOf}
 use Rattle.policy.proofs.DecisionLaws.{decides, asks, round-match}
-use Rattle.policy.proofs.PolicyLaws.{weak-rule, out-rule, inp-rule, cas-offset-rule, cas-bottom-rule}
+use Rattle.policy.proofs.PolicyLaws.{weak-rule, out-rule, inp-rule, decision-call}
 use Rattle.space.specs.declared.config.Config.{Config}
 use Rattle.space.specs.Bounds.{processes, rounds}
-use Rattle.space.specs.Configs.{sound}
+use Rattle.space.specs.Configs.{sound, hasProposals}
 use Rattle.space.specs.Members.{within}
-use Rattle.space.specs.Proposals.{offered, Placed}
+use Rattle.space.specs.Proposals.{offered, decidable, Placed}
 use Rattle.space.specs.Shapes.{processOf, proposedCode, roundOf, isProposal}
 use Rattle.space.specs.Spaces.{held, spaceOf}
-use Rattle.space.proofs.ConfigLaws.{sound-rule}
+use Rattle.space.proofs.ConfigLaws.{sound-range, proposals-some, strict-proposals}
 use Rattle.space.proofs.MemberLaws.{within-rule}
 use Rattle.space.proofs.SpaceRules.{held-of, formed-few}
 use Rattle.tuple.specs.declared.field.Tuple.{Tuple}
@@ -42,7 +42,6 @@ use Rattle.tuple.specs.declared.reply.Outcome.the-variants as outcome
 use Rattle.tuple.specs.Bounds.{capacity}
 use Rattle.tuple.specs.Fields.{out, cas, blankTuple}
 use Rattle.tuple.specs.Matching.{oldestOf}
-use Rattle.tuple.specs.Offsets.{bottom}
 use Rattle.tuple.proofs.MatchRules.{oldest-rule}
 
 -- ---- what is put
@@ -57,7 +56,8 @@ pub record Proposal (config : Config) (tuple : Tuple) : Type 0 where
 pub record Decision (config : Config) (tuple : Tuple) : Type 0 where
   pub shape : decides config tuple ≡ true
   pub round : roundOf tuple < rounds
-  pub members : config .policy ≡ 2 → within (config .n) (setOf tuple) ≡ true
+  pub members : hasProposals config ≡ true → within (config .n) (setOf tuple) ≡ true
+  pub may : hasProposals config ≡ true → decidable config (decidedCode tuple) ≡ true
 
 pub record Out (config : Config) (tuples : List Tuple) (call : Call) : Type 0 where
   pub code : call .code ≡ out
@@ -89,33 +89,24 @@ no-inp config strict tuples call code permitted =
     let denied = inp-rule config tuples call strict code in
     let z : _≡_ {A = ℕ} 0 1 = cc in omega arith
 
--- under policy 2 a cas that is permitted has the shape of one, whatever is decided
-pub decision-call : (config : Config) (tuples : List Tuple) (call : Call) → config .policy ≡ 2 → call .code ≡ cas → verdictOn config tuples call ≡ Permit
-    → DecisionCall config call
-decision-call config tuples call two code permitted =
-    let decided = decidedCode (call .entry) in
-    cases (eqb decided bottom)
-    (λ e. cas-bottom-rule config tuples call two code (eqb-true decided bottom e) .0 permitted .0)
-    (λ e. cas-offset-rule config tuples call two code (eqb-false decided bottom e) .0 permitted .0)
-
 module _ (config : Config) (safe : sound config ≡ true) (strict : 1 ≤ config .policy) (tuples : List Tuple) (call : Call) (permitted : verdictOn config tuples call ≡ Permit) where
-  by-policy : {X : Type 0} → (config .policy ≡ 1 → WeakCall call → X) → (config .policy ≡ 2 → X) → X
-  by-policy one two =
+  by-policy : {X : Type 0} → (config .policy ≡ 1 → WeakCall call → X) → (hasProposals config ≡ true → X) → X
+  by-policy one rests =
       cases (eqb (config .policy) 1)
       (λ e. let weak = eqb-true (config .policy) 1 e in one weak (weak-rule config tuples call weak .0 permitted))
-      (λ e. two (omega (arith, sound-rule config .0 safe, eqb-false (config .policy) 1 e)))
+      (λ e. rests (strict-proposals config safe strict (eqb-false (config .policy) 1 e)))
 
   puts-out : (1 ≤ call .process) × (call .process ≤ config .n) → call .code ≡ out → Out config tuples call
   puts-out known code =
       by-policy (λ one weak. absurd (omega (arith, weak .code)))
-      (λ two. let own = out-rule config tuples call two code .0 permitted in
+      (λ rests. let own = out-rule config tuples call rests code .0 permitted in
       record {
         code = code;
         entry = record {
           shape = own .shape;
           round = own .in-rounds;
           some = omega arith;
-          few = omega (arith, sound-rule config .0 safe);
+          few = omega (arith, sound-range config safe);
           may = own .may;
         };
         own = own .own;
@@ -129,14 +120,16 @@ module _ (config : Config) (safe : sound config ≡ true) (strict : 1 ≤ config
       (λ one weak. cas-alone (rw (eq-eqb (config .policy) 1 one) (weak .template)) (weak .same) (record {
         shape = rw (eq-eqb (config .policy) 1 one) (weak .entry);
         round = weak .in-rounds;
-        members = λ two. absurd (omega arith);
+        members = λ rests. absurd (omega (arith, proposals-some config rests));
+        may = λ rests. absurd (omega (arith, proposals-some config rests));
       }))
-      (λ two. let shaped = decision-call config tuples call two code permitted in
-      let other = ne-eqb (config .policy) 1 (λ one. omega arith) in
+      (λ rests. let shaped = decision-call config tuples call rests code permitted in
+      let other = ne-eqb (config .policy) 1 (λ one. omega (arith, proposals-some config rests)) in
       cas-alone (rw other (shaped .template)) (shaped .same) (record {
         shape = rw other (shaped .entry);
         round = shaped .in-rounds;
         members = λ same. within-rule (config .n) (setOf (call .entry)) .1 (shaped .members);
+        may = λ same. shaped .may;
       }))
     where
       cas-alone : asks config (call .template) ≡ true → roundOf (call .template) ≡ roundOf (call .entry) → Decision config (call .entry) → Cas config tuples call

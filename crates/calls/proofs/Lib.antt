@@ -2,9 +2,9 @@ pub mod Advances
 pub mod CallLaws
 pub mod CallSteps
 pub mod ChangeLaws
-pub mod DefaultLaws
 pub mod EffectLaws
 pub mod Effects
+pub mod JustifiedLaws
 pub mod Keys
 pub mod NeverFullLaws
 pub mod RunSteps

@@ -1,4 +1,4 @@
--- Under policies 1 and 2 refusal 8 never comes, call by call along a run.
+-- Under policies 1 to 3 refusal 8 never comes, call by call along a run.
 use mathlib.Core.Path.{_≡_, sym, ap, _∙_}
 use mathlib.Core.Logic.{⊎-elim}
 use Prim.Native.Nat.{_≤_}

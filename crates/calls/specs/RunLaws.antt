@@ -11,7 +11,7 @@ use Rattle.policy.specs.declared.verdicts.Verdict.the-variants.{Permit}
 use Rattle.policy.specs.Policies.{verdictOn}
 use Rattle.policy.specs.Shapes.{isDecision}
 use Rattle.space.specs.declared.config.Config.{Config}
-use Rattle.space.specs.Configs.{sound}
+use Rattle.space.specs.Configs.{sound, hasProposals}
 use Rattle.space.specs.Shapes.{roundOf, isProposal, processOf}
 use Rattle.space.specs.Spaces.{held, freshOf}
 use Rattle.tuple.specs.declared.field.Tuple.{Tuple}
@@ -31,7 +31,7 @@ SumRule =
     → sound config ≡ true
     → length (held (last config calls)) + removals (turns config calls) ≡ additions (turns config calls)
 
--- under policies 1 and 2 refusal 8 never comes
+-- under policies 1 to 3 refusal 8 never comes
 abbrev pub NeverFull : Type 0
 NeverFull =
     (config : Config) (calls : List Call) (turn : Turn)
@@ -41,7 +41,7 @@ NeverFull =
     → turn .reply .outcome ≡ Refused (refusal 8)
     → ⊥
 
--- the policy permits no inp, as 1 and 2 do (`InpRule`)
+-- the policy permits no inp, as 1 to 3 do (`InpRule`)
 abbrev pub NoInp : Config → Type 0
 NoInp config = (tuples : List Tuple) (call : Call) → call .code ≡ inp → verdictOn config tuples call ≡ Permit → ⊥
 
@@ -52,7 +52,7 @@ NothingLeaves =
     → NoInp config
     → (more : List Tuple) × (held (last config (before ++ calls)) ≡ held (last config before) ++ more)
 
--- ---- what policy 2 makes of every list of calls
+-- ---- what policies 2 and 3 make of every list of calls
 
 -- the tuple was put by a done out of its own process
 pub record OwnOut (config : Config) (calls : List Call) (tuple : Tuple) : Type 0 where
@@ -74,7 +74,7 @@ pub record Borne (config : Config) (calls : List Call) (tuple : Tuple) : Type 0 
   pub inserted : applied (last config before) call .reply .outcome ≡ Inserted
   pub permitted : verdictOn config (held (last config before)) call ≡ Permit
 
-pub record DefaultRule (config : Config) (calls : List Call) : Type 0 where
+pub record JustifiedRule (config : Config) (calls : List Call) : Type 0 where
   -- at most one proposal per round and process, each put by that process's own done out
   pub one-proposal : (i j : ℕ) → i < length (held (last config calls)) → j < length (held (last config calls))
       → isProposal (getD (held (last config calls)) i blankTuple) ≡ true
@@ -93,5 +93,5 @@ pub record DefaultRule (config : Config) (calls : List Call) : Type 0 where
   -- and there is no other tuple
   pub only : (tuple : Tuple) → List·Memᴰ tuple (held (last config calls)) → (isProposal tuple ≡ true) ⊎ (isDecision tuple ≡ true)
 
-abbrev pub DefaultRules : Type 0
-DefaultRules = (config : Config) (calls : List Call) → sound config ≡ true → config .policy ≡ 2 → DefaultRule config calls
+abbrev pub JustifiedRules : Type 0
+JustifiedRules = (config : Config) (calls : List Call) → sound config ≡ true → hasProposals config ≡ true → JustifiedRule config calls

@@ -15,13 +15,18 @@ use tuple::Reply;
 use tuple::Tuple;
 
 pub(crate) fn open(n: u64, t: u64, policy: u64) -> Space {
-    let opened = space::fresh(Config { n, t, policy });
+    let opened = space::fresh(Config { n, t, policy, k: 0 });
     opened.space
 }
 
 // Whether a space stands under policy 2, as a line.
 pub(crate) fn set_up(labels: &[u8], number: usize, n: u64, t: u64) {
-    let opened = space::fresh(Config { n, t, policy: 2 });
+    let opened = space::fresh(Config {
+        n,
+        t,
+        policy: 2,
+        k: 0,
+    });
     let opening = opened.opening;
     match opening {
         Opening::Stands => {

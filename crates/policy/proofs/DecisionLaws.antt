@@ -1,4 +1,4 @@
--- The decisions of policies 1 and 2: each is no proposal, and a template for one matches every one of its round.
+-- The decisions of policies 1 to 3: each is no proposal, and a template for one matches every one of its round.
 use mathlib.Core.Path.{_≡_, refl, sym, _∙_}
 use Prim.Native.Nat.{ℕ, zero, suc, _≤_, _<_}
 use native.Mathlib.Omega.{arith}
@@ -18,7 +18,7 @@ use Rattle.tuple.specs.Fields.{word, count, offset, processSet, defined, wildca
 use Rattle.tuple.specs.Matching.{fieldMatches, fieldsMatch, matches}
 use Rattle.tuple.specs.Shapes.{field, is, says}
 
--- a decision, and the template of one, under policy 1 or 2
+-- a decision, and the template of one, under policies 1 to 3
 abbrev pub decides : Config → Tuple → Bool
 decides config tuple = cond (eqb (config .policy) 1) (isWeakEntry tuple) (isDecision tuple)
 

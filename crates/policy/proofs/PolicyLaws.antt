@@ -1,9 +1,9 @@
--- Each policy permits exactly what document 01's words say. From the definitions of policies and the laws of proposals and sets.
+-- Each policy permits exactly what the words of documents 01 and 02 say. From the definitions of policies and the laws of proposals and sets.
 use mathlib.Core.Path.{_≡_, refl, ap, _∙_}
-use mathlib.Core.Logic.{_↔_, _⊎_, inl, inr}
-use mathlib.Core.Bool.{Bool, true, false, false≢true, cond, not, _&&_, and-eq-true-iff}
+use mathlib.Core.Logic.{_↔_, _⊎_, inl, inr, ⊎-elim}
+use mathlib.Core.Bool.{Bool, true, false, false≢true, cond, not, _&&_, and-false, and-eq-true-iff}
 use mathlib.Core.List.{List}
-use Prim.Native.Nat.{ℕ, _+_, _-_, _<_}
+use Prim.Native.Nat.{ℕ, _+_, _-_, _≤_, _<_}
 use native.Mathlib.Omega.{arith}
 use lib.Count.{ones}
 use lib.Dec.{leb, eqb}
@@ -11,20 +11,24 @@ use borrow.Author.Tests.{ltb-true, leb-true, eqb-true, not-true, lt-ltb, le-leb,
 use borrow.Table.Steps.{cases}
 use Rattle.policy.specs.declared.verdicts.Verdict.{Verdict}
 use Rattle.policy.specs.declared.verdicts.Verdict.the-variants.{Permit, Refuse}
-use Rattle.policy.specs.Default.{isOwnProposal, isFree, outVerdict, isDecisionCall, bearsOffset, bearsBottom, bears, casVerdict, default}
-use Rattle.policy.specs.Laws.{VerdictRule, UnknownRule, BoundedRule, BareRule, WeakRule, OutRule, RdpRule, InpRule, DecisionCall, BearsOffset, BearsBottom, CasOffsetRule, CasBottomRule}
+use Rattle.policy.specs.Justified.{isOwnProposal, isFree, outVerdict, isDecisionCall, bearsOffset, bears, casVerdict, justified}
+use Rattle.policy.specs.Default.{bearsBottom}
+use Rattle.policy.specs.Laws.{VerdictRule, UnknownRule, BoundedRule, BareRule, WeakRule, OutRule, RdpRule, InpRule, DecisionCall, BearsOffset, BearsBottom, CasOffsetRule, CasBottomRule, CasChoiceRule}
 use Rattle.policy.specs.Policies.{verdictOn, verdict}
-use Rattle.policy.specs.Shapes.{sameRound, isWeakTemplate, isWeakEntry, isDecisionTemplate, decidedCode, setOf}
+use Rattle.policy.specs.Shapes.{sameRound, isWeakTemplate, isWeakEntry, isDecisionTemplate, isDecision, decidedCode, setOf}
 use Rattle.policy.specs.Verdicts.{demand}
 use Rattle.policy.specs.Weak.{isWeakCall, weak}
 use Rattle.space.specs.declared.config.Config.{Config}
 use Rattle.space.specs.declared.proposal.Sought.the-variants.{One, Some, Any}
 use Rattle.space.specs.Bounds.{rounds}
+use Rattle.space.specs.Configs.{hasProposals}
 use Rattle.space.specs.Members.{within}
-use Rattle.space.specs.Proposals.{offered, proposed, everyProposed, crowded, Placed}
+use Rattle.space.specs.Proposals.{offered, decidable, proposed, everyProposed, crowded, Placed}
 use Rattle.space.specs.Shapes.{isProposal, roundOf, inRounds, processOf, proposedCode}
+use Rattle.space.proofs.CodeLaws.{offered-some}
+use Rattle.space.proofs.ConfigLaws.{proposals-rule, proposals-some}
 use Rattle.space.proofs.MemberLaws.{within-rule, every-member}
-use Rattle.space.proofs.ProposalLaws.{proposed-rules, crowded-rule, backers-rule}
+use Rattle.space.proofs.ProposalLaws.{offered-alone, proposed-rules, crowded-rule, backers-rule}
 use Rattle.space.proofs.ShapeLaws.{four}
 use Rattle.tuple.specs.declared.field.Tuple.{Tuple}
 use Rattle.tuple.specs.declared.field.Call.{Call}
@@ -61,11 +65,11 @@ cond-ruled true a b = a
 cond-ruled false a b = b
 
 pub verdict-rule : VerdictRule
-unfolding verdictOn weak default outVerdict casVerdict
+unfolding verdictOn weak justified outVerdict casVerdict
 verdict-rule config tuples call =
     cond-ruled (eqb (config .policy) 0) (ruled _ refl)
     (cond-ruled (eqb (config .policy) 1) (demand-ruled (isWeakCall call) (ruled _ refl))
-    (cond-ruled (eqb (config .policy) 2)
+    (cond-ruled (hasProposals config)
     (cond-ruled (eqb (call .code) out) (demand-ruled (isOwnProposal config call) (demand-ruled (isFree config tuples (call .entry)) (ruled _ refl)))
     (cond-ruled (eqb (call .code) rdp) (ruled _ refl)
     (cond-ruled (eqb (call .code) cas) (demand-ruled (isDecisionCall config call) (demand-ruled (bears config tuples (call .entry)) (ruled _ refl))) (ruled _ refl))))
@@ -78,9 +82,9 @@ unfolding verdict
 bounded-rule space call out-of = rw out-of
 
 pub unknown-rule : UnknownRule
-unfolding verdictOn
+unfolding verdictOn hasProposals
 unknown-rule config tuples call above =
-    rw (ne-eqb (config .policy) 0 (λ e. omega arith), ne-eqb (config .policy) 1 (λ e. omega arith), ne-eqb (config .policy) 2 (λ e. omega arith))
+    rw (ne-eqb (config .policy) 0 (λ e. omega arith), ne-eqb (config .policy) 1 (λ e. omega arith), ne-eqb (config .policy) 2 (λ e. omega arith), ne-eqb (config .policy) 3 (λ e. omega arith))
 
 pub bare-rule : BareRule
 unfolding verdictOn
@@ -91,9 +95,11 @@ module _ (config : Config) (tuples : List Tuple) (call : Call) where
   unfolding verdictOn
   under-weak one = rw one
 
-  pub under-default : config .policy ≡ 2 → verdictOn config tuples call ≡ default config tuples call
+  pub under-justified : hasProposals config ≡ true → verdictOn config tuples call ≡ justified config tuples call
   unfolding verdictOn
-  under-default two = rw two
+  under-justified rests =
+      let two = proposals-some config rests in
+      rw (ne-eqb (config .policy) 0 (λ e. omega arith), ne-eqb (config .policy) 1 (λ e. omega arith), rests)
 
 -- ---- policy 1
 
@@ -117,17 +123,17 @@ weak-rule config tuples call one =
       λ c. rw (c .code, c .template, c .entry, round .1 (c .same, c .in-rounds)),
     )
 
--- ---- policy 2: rdp, inp and out
+-- ---- policies 2 and 3: rdp, inp and out
 
 pub rdp-rule : RdpRule
-unfolding default
-rdp-rule config tuples call two e = rw (under-default config tuples call two, e)
+unfolding justified
+rdp-rule config tuples call rests e = rw (under-justified config tuples call rests, e)
 
 pub inp-rule : InpRule
-unfolding verdictOn weak isWeakCall default
+unfolding verdictOn weak isWeakCall justified
 inp-rule config tuples call some e =
     let none = ne-eqb (config .policy) 0 (λ z. omega arith) in
-    cases (eqb (config .policy) 1) (λ one. rw (none, one, e)) (λ other. cases (eqb (config .policy) 2) (λ two. rw (none, other, two, e)) (λ more. rw (none, other, more)))
+    cases (eqb (config .policy) 1) (λ one. rw (none, one, e)) (λ other. cases (hasProposals config) (λ rests. rw (none, other, rests, e)) (λ more. rw (none, other, more)))
 
 free-rule : (config : Config) (tuples : List Tuple) (entry : Tuple) → (isFree config tuples entry ≡ true) ↔ (Placed tuples (roundOf entry) (processOf entry) → ⊥)
 unfolding isFree
@@ -138,11 +144,11 @@ free-rule config tuples entry =
     )
 
 pub out-rule : OutRule
-unfolding default outVerdict isOwnProposal
-out-rule config tuples call two e =
+unfolding justified outVerdict isOwnProposal
+out-rule config tuples call rests e =
     let entry = call .entry in
     let none = free-rule config tuples entry in
-    rw (under-default config tuples call two, e) (
+    rw (under-justified config tuples call rests, e) (
       λ h.
           let own = demanded (isOwnProposal config call) (refusal 7) (demand (isFree config tuples entry) (refusal 7) Permit) h in
           let free = demanded (isFree config tuples entry) (refusal 7) Permit (own .1) .0 in
@@ -152,7 +158,7 @@ out-rule config tuples call two e =
       λ own. rw (own .shape, lt-ltb _ _ (own .in-rounds), eq-eqb _ _ (own .own), own .may, none .1 (rw (own .own) (own .free))),
     )
 
--- ---- policy 2: cas
+-- ---- policies 2 and 3: cas
 
 module _ (config : Config) (tuples : List Tuple) (call : Call) where
   pub decision-rule : (isDecisionCall config call ≡ true) ↔ DecisionCall config call
@@ -161,24 +167,26 @@ module _ (config : Config) (tuples : List Tuple) (call : Call) where
       let round = same-round (call .template) (call .entry) in
       let set = within-rule (config .n) (setOf (call .entry)) in (
         λ h.
-            let all = and-eq-true-iff _ (within (config .n) (setOf (call .entry))) .0 h in
+            let last = and-eq-true-iff (isDecisionTemplate (call .template) && isDecision (call .entry) && sameRound (call .template) (call .entry) && within (config .n) (setOf (call .entry))) _ .0 h in
+            let may : decidable config (decidedCode (call .entry)) ≡ true = last .1 in
+            let all = and-eq-true-iff _ (within (config .n) (setOf (call .entry))) .0 (last .0) in
             let shapes = and-eq-true-iff _ (sameRound (call .template) (call .entry)) .0 (all .0) in
             let shape = and-eq-true-iff (isDecisionTemplate (call .template)) _ .0 (shapes .0) in
             let on = round .0 (shapes .1) in
-            record { template = shape .0; entry = shape .1; same = on .0; in-rounds = on .1; members = set .0 (all .1) },
-        λ d. rw (d .template, d .entry, round .1 (d .same, d .in-rounds), set .1 (d .members)),
+            record { template = shape .0; entry = shape .1; same = on .0; in-rounds = on .1; members = set .0 (all .1); may = may },
+        λ d. rw (d .template, d .entry, round .1 (d .same, d .in-rounds), set .1 (d .members), d .may),
       )
 
-  under-cas : config .policy ≡ 2 → call .code ≡ cas → verdictOn config tuples call ≡ casVerdict config tuples call
-  unfolding default
-  under-cas two e =
-      under-default config tuples call two
+  under-cas : hasProposals config ≡ true → call .code ≡ cas → verdictOn config tuples call ≡ casVerdict config tuples call
+  unfolding justified
+  under-cas rests e =
+      under-justified config tuples call rests
       ∙ rw (ne-eqb (call .code) out (λ z. omega arith), ne-eqb (call .code) rdp (λ z. omega arith), eq-eqb (call .code) cas e)
 
-  cas-rule : (Bears : Type 0) → config .policy ≡ 2 → call .code ≡ cas → (DecisionCall config call → (bears config tuples (call .entry) ≡ true) ↔ Bears)
+  cas-rule : (Bears : Type 0) → hasProposals config ≡ true → call .code ≡ cas → (DecisionCall config call → (bears config tuples (call .entry) ≡ true) ↔ Bears)
       → (verdictOn config tuples call ≡ Permit) ↔ (DecisionCall config call × Bears)
   unfolding casVerdict
-  cas-rule Bears two e borne = rw (under-cas two e) (
+  cas-rule Bears rests e borne = rw (under-cas rests e) (
     λ h.
         let tests = demanded (isDecisionCall config call) (refusal 7) (demand (bears config tuples (call .entry)) (refusal 7) Permit) h in
         let shaped = decision-rule .0 (tests .0) in
@@ -186,11 +194,15 @@ module _ (config : Config) (tuples : List Tuple) (call : Call) where
     λ h. rw (decision-rule .1 (h .0), borne (h .0) .1 (h .1)),
   )
 
+  -- a cas that is permitted has the shape of one, whatever is decided
+  pub decision-call : hasProposals config ≡ true → call .code ≡ cas → verdictOn config tuples call ≡ Permit → DecisionCall config call
+  decision-call rests e permitted = cas-rule (bears config tuples (call .entry) ≡ true) rests e (λ shaped. (λ b. b, λ b. b)) .0 permitted .0
+
 pub cas-offset-rule : CasOffsetRule
 unfolding bears bearsOffset everyProposed
-cas-offset-rule config tuples call two e some =
+cas-offset-rule config tuples call rests e some =
     let entry = call .entry in
-    cas-rule config tuples call (BearsOffset config tuples entry) two e
+    cas-rule config tuples call (BearsOffset config tuples entry) rests e
     (λ shaped.
     let each = every-member (proposed config tuples (One (decidedCode entry)) (roundOf entry)) (λ k. proposed-rules config tuples (roundOf entry) k .one (decidedCode entry))
     (config .n) (setOf entry) (shaped .members) in (
@@ -207,7 +219,7 @@ cas-bottom-rule config tuples call two e none =
     let entry = call .entry in
     let round = roundOf entry in
     let set = setOf entry in
-    cas-rule config tuples call (BearsBottom config tuples entry) two e
+    cas-rule config tuples call (BearsBottom config tuples entry) (proposals-rule config .1 (inl two)) e
     (λ shaped.
     let each = every-member (proposed config tuples Some round) (λ k. proposed-rules config tuples round k .some) (config .n) set (shaped .members) in
     let few = crowded-rule config tuples round set in
@@ -219,3 +231,12 @@ cas-bottom-rule config tuples call two e none =
           record { enough = leb-true _ _ (parts .0); each = each .0 (parts .1); few = λ w. count w .0 (few .0 (not-true _ (all .1)) w) },
       λ b. rw (eq-eqb _ _ none, le-leb _ _ (b .enough), each .1 (b .each), few .1 (λ w. count w .1 (b .few w))),
     ))
+
+pub cas-choice-rule : CasChoiceRule
+unfolding casVerdict isDecisionCall
+cas-choice-rule config tuples call three e none =
+    let code = decidedCode (call .entry) in
+    let withheld : offered config code ≡ false =
+    ⊎-elim (λ mark. cases (offered config code) (λ may. absurd (offered-some config code may mark)) (λ may. may)) (λ may. may) none in
+    let undecidable : decidable config code ≡ false = offered-alone config code (λ two. omega arith) ∙ withheld in
+    rw (under-cas config tuples call (proposals-rule config .1 (inr three)) e, undecidable, and-false)

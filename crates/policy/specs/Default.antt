@@ -1,69 +1,15 @@
--- Document 01, "Policies", 2, default (Fig. 5), on the tuples that the space holds.
-use Prim.Native.Nat.{ℕ, _+_, _-_}
-use mathlib.Core.Bool.{Bool, cond, not, _&&_}
+-- Document 01, "Policies", 2, default (Fig. 5): what bears bottom, which no other policy decides.
+use Prim.Native.Nat.{ℕ, _-_}
+use mathlib.Core.Bool.{Bool, not, _&&_}
 use mathlib.Core.List.{List}
 use lib.Count.{ones}
-use lib.Dec.{leb, eqb}
-use Rattle.policy.specs.declared.verdicts.Verdict.{Verdict}
-use Rattle.policy.specs.declared.verdicts.Verdict.the-variants.{Permit, Refuse}
-use Rattle.policy.specs.Shapes.{sameRound, isDecisionTemplate, isDecision, decidedCode, setOf}
-use Rattle.policy.specs.Verdicts.{demand}
+use lib.Dec.{leb}
 use Rattle.space.specs.declared.config.Config.{Config}
-use Rattle.space.specs.declared.proposal.Sought.the-variants.{One, Some, Any}
-use Rattle.space.specs.Members.{within}
-use Rattle.space.specs.Proposals.{offered, proposed, everyProposed, crowded}
-use Rattle.space.specs.Shapes.{roundOf, inRounds, isProposal, processOf, proposedCode}
+use Rattle.space.specs.declared.proposal.Sought.the-variants.{Some}
+use Rattle.space.specs.Proposals.{everyProposed, crowded}
 use Rattle.tuple.specs.declared.field.Tuple.{Tuple}
-use Rattle.tuple.specs.declared.field.Call.{Call}
-use Rattle.tuple.specs.Fields.{out, rdp, cas}
-use Rattle.tuple.specs.Offsets.{bottom}
-use Rattle.tuple.specs.Refusals.{refusal}
 
--- ---- out
-
--- a proposal of the caller's own, in a round, of an offset that may be proposed
-unfoldable pub isOwnProposal : Config → Call → Bool
-isOwnProposal config call =
-    isProposal (call .entry) && inRounds (roundOf (call .entry)) && eqb (processOf (call .entry)) (call .process) && offered config (proposedCode (call .entry))
-
--- no tuple (word 1, r, p, some offset or bottom) stands there
-unfoldable pub isFree : Config → List Tuple → Tuple → Bool
-isFree config tuples entry = not (proposed config tuples Any (roundOf entry) (processOf entry))
-
-unfoldable pub outVerdict : Config → List Tuple → Call → Verdict
-outVerdict config tuples call =
-    demand (isOwnProposal config call) (refusal 7) (demand (isFree config tuples (call .entry)) (refusal 7) Permit)
-
--- ---- cas
-
--- both shapes on one round, and all of the set in 1 to n
-unfoldable pub isDecisionCall : Config → Call → Bool
-isDecisionCall config call =
-    isDecisionTemplate (call .template) && isDecision (call .entry) && sameRound (call .template) (call .entry) && within (config .n) (setOf (call .entry))
-
--- the set bears an offset: at least t + 1 members, each of which has proposed it
-unfoldable pub bearsOffset : Config → List Tuple → ℕ → ℕ → ℕ → Bool
-bearsOffset config tuples round set w = leb (config .t + 1) (ones set) && everyProposed config tuples (One w) round set
-
--- it bears bottom: at least n - t members, each of which has proposed, and no offset proposed by more than t of them
+-- a set bears bottom: at least n - t members, each of which has proposed, and no offset proposed by more than t of them
 unfoldable pub bearsBottom : Config → List Tuple → ℕ → ℕ → Bool
 bearsBottom config tuples round set =
     leb (config .n - config .t) (ones set) && everyProposed config tuples Some round set && not (crowded config tuples round set)
-
-unfoldable pub bears : Config → List Tuple → Tuple → Bool
-bears config tuples entry =
-    cond (eqb (decidedCode entry) bottom) (bearsBottom config tuples (roundOf entry) (setOf entry))
-    (bearsOffset config tuples (roundOf entry) (setOf entry) (decidedCode entry))
-
-unfoldable pub casVerdict : Config → List Tuple → Call → Verdict
-casVerdict config tuples call =
-    demand (isDecisionCall config call) (refusal 7) (demand (bears config tuples (call .entry)) (refusal 7) Permit)
-
--- ---- by the call
-
--- rdp is always permitted, inp never
-unfoldable pub default : Config → List Tuple → Call → Verdict
-default config tuples call =
-    cond (eqb (call .code) out) (outVerdict config tuples call)
-    (cond (eqb (call .code) rdp) Permit
-    (cond (eqb (call .code) cas) (casVerdict config tuples call) (Refuse (refusal 7))))

@@ -1,4 +1,4 @@
--- Each policy permits exactly what document 01's words say: claims over the definitions.
+-- Each policy permits exactly what the words of documents 01 and 02 say: claims over the definitions.
 use mathlib.Core.Path.{_≡_}
 use mathlib.Core.Logic.{_↔_, _⊎_}
 use mathlib.Core.Bool.{true, false}
@@ -11,8 +11,9 @@ use Rattle.policy.specs.Shapes.{isWeakTemplate, isWeakEntry, isDecisionT
 use Rattle.space.specs.declared.config.Config.{Config}
 use Rattle.space.specs.declared.space.Space.{Space}
 use Rattle.space.specs.Bounds.{rounds}
+use Rattle.space.specs.Configs.{hasProposals}
 use Rattle.space.specs.Members.{Member}
-use Rattle.space.specs.Proposals.{offered, Placed, Proposed}
+use Rattle.space.specs.Proposals.{offered, decidable, Placed, Proposed}
 use Rattle.space.specs.Shapes.{roundOf, isProposal, processOf, proposedCode}
 use Rattle.space.specs.Spaces.{bounded}
 use Rattle.tuple.specs.declared.field.Tuple.{Tuple}
@@ -35,7 +36,7 @@ BoundedRule = (space : Space) (call : Call) → bounded space ≡ false → verd
 
 -- a number that is no policy's permits nothing
 abbrev pub UnknownRule : Type 0
-UnknownRule = (config : Config) (tuples : List Tuple) (call : Call) → 2 < config .policy → verdictOn config tuples call ≡ Refuse (refusal 7)
+UnknownRule = (config : Config) (tuples : List Tuple) (call : Call) → 3 < config .policy → verdictOn config tuples call ≡ Refuse (refusal 7)
 
 -- ---- policy 0: all calls
 
@@ -54,7 +55,7 @@ pub record WeakCall (call : Call) : Type 0 where
 abbrev pub WeakRule : Type 0
 WeakRule = (config : Config) (tuples : List Tuple) (call : Call) → config .policy ≡ 1 → (verdictOn config tuples call ≡ Permit) ↔ WeakCall call
 
--- ---- policy 2
+-- ---- policies 2 and 3
 
 -- out only of the caller's own proposal, of an offset that may be proposed, in a round 0 to 7, and no tuple of that round and process stands there
 pub record OwnProposal (config : Config) (tuples : List Tuple) (call : Call) : Type 0 where
@@ -67,44 +68,47 @@ pub record OwnProposal (config : Config) (tuples : List Tuple) (call : Call) : T
 abbrev pub OutRule : Type 0
 OutRule =
     (config : Config) (tuples : List Tuple) (call : Call)
-    → config .policy ≡ 2
+    → hasProposals config ≡ true
     → call .code ≡ out
     → (verdictOn config tuples call ≡ Permit) ↔ OwnProposal config tuples call
 
 -- rdp is always permitted
 abbrev pub RdpRule : Type 0
-RdpRule = (config : Config) (tuples : List Tuple) (call : Call) → config .policy ≡ 2 → call .code ≡ rdp → verdictOn config tuples call ≡ Permit
+RdpRule = (config : Config) (tuples : List Tuple) (call : Call) → hasProposals config ≡ true → call .code ≡ rdp → verdictOn config tuples call ≡ Permit
 
 -- inp never, nor under policy 1
 abbrev pub InpRule : Type 0
 InpRule = (config : Config) (tuples : List Tuple) (call : Call) → 1 ≤ config .policy → call .code ≡ inp → verdictOn config tuples call ≡ Refuse (refusal 7)
 
--- cas only with the two shapes, on one round 0 to 7, with all of the set in 1 to n
+-- cas only with the two shapes, on one round 0 to 7, with all of the set in 1 to n, of what may be decided
 pub record DecisionCall (config : Config) (call : Call) : Type 0 where
   pub template : isDecisionTemplate (call .template) ≡ true
   pub entry : isDecision (call .entry) ≡ true
   pub same : roundOf (call .template) ≡ roundOf (call .entry)
   pub in-rounds : roundOf (call .entry) < rounds
   pub members : (k : ℕ) → Member k (setOf (call .entry)) → k ≤ config .n
+  pub may : decidable config (decidedCode (call .entry)) ≡ true
 
 -- an offset: at least t + 1 members, each of which has proposed it
 pub record BearsOffset (config : Config) (tuples : List Tuple) (entry : Tuple) : Type 0 where
   pub enough : config .t + 1 ≤ ones (setOf entry)
   pub each : (k : ℕ) → Member k (setOf entry) → Proposed config tuples (roundOf entry) k (decidedCode entry)
 
+abbrev pub CasOffsetRule : Type 0
+CasOffsetRule =
+    (config : Config) (tuples : List Tuple) (call : Call)
+    → hasProposals config ≡ true
+    → call .code ≡ cas
+    → (decidedCode (call .entry) ≡ bottom → ⊥)
+    → (verdictOn config tuples call ≡ Permit) ↔ (DecisionCall config call × BearsOffset config tuples (call .entry))
+
+-- ---- policy 2 alone
+
 -- bottom: at least n - t members, each of which has proposed, and of every offset w at most t of them have proposed w: q is their set
 pub record BearsBottom (config : Config) (tuples : List Tuple) (entry : Tuple) : Type 0 where
   pub enough : config .n - config .t ≤ ones (setOf entry)
   pub each : (k : ℕ) → Member k (setOf entry) → (w : ℕ) × Proposed config tuples (roundOf entry) k w
   pub few : (w q : ℕ) → ((k : ℕ) → Member k q ↔ (Member k (setOf entry) × Proposed config tuples (roundOf entry) k w)) → ones q ≤ config .t
-
-abbrev pub CasOffsetRule : Type 0
-CasOffsetRule =
-    (config : Config) (tuples : List Tuple) (call : Call)
-    → config .policy ≡ 2
-    → call .code ≡ cas
-    → (decidedCode (call .entry) ≡ bottom → ⊥)
-    → (verdictOn config tuples call ≡ Permit) ↔ (DecisionCall config call × BearsOffset config tuples (call .entry))
 
 abbrev pub CasBottomRule : Type 0
 CasBottomRule =
@@ -113,3 +117,14 @@ CasBottomRule =
     → call .code ≡ cas
     → decidedCode (call .entry) ≡ bottom
     → (verdictOn config tuples call ≡ Permit) ↔ (DecisionCall config call × BearsBottom config tuples (call .entry))
+
+-- ---- policy 3 alone
+
+-- bottom is always denied, and so is an offset that may not be proposed
+abbrev pub CasChoiceRule : Type 0
+CasChoiceRule =
+    (config : Config) (tuples : List Tuple) (call : Call)
+    → config .policy ≡ 3
+    → call .code ≡ cas
+    → (decidedCode (call .entry) ≡ bottom) ⊎ (offered config (decidedCode (call .entry)) ≡ false)
+    → verdictOn config tuples call ≡ Refuse (refusal 7)

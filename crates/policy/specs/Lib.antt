@@ -1,4 +1,5 @@
 pub mod Default
+pub mod Justified
 pub mod Laws
 pub mod Policies
 pub mod Shapes

@@ -4,7 +4,7 @@ ghost use mathlib.Core.Bool.{true};
 ghost use Rattle.policy.specs.Policies.{verdictOn, verdict as verdict·};
 ghost use Rattle.space.specs.Configs.{sound};
 ghost use Rattle.space.specs.Spaces.{held};
-use crate::default::default;
+use crate::justified::justified;
 use crate::verdicts::Verdict;
 use crate::weak::weak;
 use space::Space;
@@ -38,8 +38,8 @@ fn verdict_on(space: Space, call: Call) -> Verdict
     if policy == 1 {
         return weak(call);
     }
-    if policy == 2 {
-        return default(space, call);
+    if space.config.has_proposals() {
+        return justified(space, call);
     }
     Verdict::Refuse(Refusal::Denied)
 }

@@ -11,7 +11,7 @@ use borrow.Author.Tests.{eqb-true, eq-eqb, le-leb}
 use Rattle.process.specs.Asks.{given, proposal, decisionEntry}
 use Rattle.process.specs.Fits.{isAskedProposal, isRoundDecision, fitsCas}
 use Rattle.process.specs.Procedure.{valueOf}
-use Rattle.process.proofs.CodeLaws.{offered-small, decidable-small}
+use Rattle.space.proofs.CodeLaws.{offered-small, decidable-small}
 use Rattle.policy.specs.Shapes.{isDecision, decidedCode, setOf}
 use Rattle.space.specs.declared.config.Config.{Config}
 use Rattle.space.specs.Members.{within}

@@ -17,7 +17,8 @@ use Rattle.process.specs.States.{noneFound, startable, codeSound, foundS
 use Rattle.process.specs.Tallies.{backed, settled, nextAfter}
 use Rattle.process.proofs.FitLaws.{answer-rule, value-decidable}
 use Rattle.process.proofs.NextLaws.{next-rules}
-use Rattle.process.proofs.StateLaws.{Same, Codes, Reads, Late, Decides, startable-parts, formed-parts, none-at, codes-set, put-back, reading-rule, deciding-rule, some-free, unsettled-few, none-unsettled, backed-decidable}
+use Rattle.process.proofs.ChoiceLaws.{backed-decidable}
+use Rattle.process.proofs.StateLaws.{Same, Codes, Reads, Late, Decides, startable-parts, formed-parts, none-at, codes-set, put-back, reading-rule, deciding-rule, some-free, unsettled-few, none-unsettled}
 use Rattle.space.specs.declared.config.Config.{Config}
 use Rattle.space.specs.Bounds.{processes}
 use Rattle.space.specs.Configs.{known}
@@ -66,7 +67,7 @@ module _ (p : Process) (same : Same (p .config) (p .process) (p .round)) where
   kept-deciding : (tuple : Tuple) (outcome : Outcome) → Decides (p .config) (p .found) → fitsCas (p .config) (p .round) tuple outcome ≡ true
       → Kept (decides p (valueOf (backed (p .config .t) (p .found)) tuple outcome) .process)
   kept-deciding tuple outcome d fit =
-      let own = backed-decidable (p .config) (p .found) (startable-parts (p .config) (same .start) .policy) (d .codes) in
+      let own = backed-decidable (p .config) (p .found) (startable-parts (p .config) (same .start)) (d .codes) (d .enough) in
       kept-decided (valueOf (backed (p .config .t) (p .found)) tuple outcome) (value-decidable (p .config) (p .round) _ tuple outcome own fit)
 
   module _ (typed : length (p .found) ≡ processes) where

@@ -1,5 +1,5 @@
 pub mod AnswerLaws
-pub mod CodeLaws
+pub mod ChoiceLaws
 pub mod FitLaws
 mod FitSteps
 pub mod KeptLaws

@@ -6,7 +6,7 @@ use mathlib.Core.Bool.{true, false}
 use borrow.Author.Tests.{le-leb}
 use borrow.Table.Steps.{cases}
 use Rattle.process.specs.Procedure.{proposable}
-use Rattle.process.proofs.CodeLaws.{decidable-small}
+use Rattle.space.proofs.CodeLaws.{decidable-small}
 use Rattle.space.specs.declared.config.Config.{Config}
 use Rattle.space.specs.Proposals.{offered, decidable}
 use Rattle.tuple.specs.declared.offset.Coded.the-variants.{Code, OutOfRange}

@@ -29,6 +29,7 @@ use Rattle.process.proofs.TallyLaws.{Part, settled-part}
 use Rattle.space.specs.declared.config.Config.{Config}
 use Rattle.space.specs.Bounds.{processes, rounds}
 use Rattle.space.specs.Proposals.{offered, decidable}
+use Rattle.space.proofs.CodeLaws.{zero-offered}
 use Rattle.tuple.specs.declared.offset.Offset.the-variants.{Hundredths}
 use Rattle.tuple.specs.declared.reply.Outcome.the-variants.{Done, None, Found, Held}
 use Rattle.tuple.specs.declared.reply.Reply.{Reply}
@@ -172,9 +173,8 @@ module _ (config : Config) (process round : ℕ) where
 
   module _ (same : Same config process round) where
     reach-proposing : Reachable (state Proposing noneFound)
-    unfolding offered
     reach-proposing =
-        let begins = started-begun config process round (Hundredths (pos 0)) same refl in
+        let begins = started-begun config process round (Hundredths (pos 0)) same (zero-offered config (startable-parts config (same .start) .safe)) in
         rw begins at (starts config process round (Hundredths (pos 0)) (rw begins))
 
     reach-first : Reachable (state (Reading 1) noneFound)
@@ -215,11 +215,10 @@ module _ (config : Config) (process round : ℕ) where
     -- one offset found again and again ends the reading
     ends : (m : ℕ) {asked : ℕ} {found : List ℕ} → config .n < backing bottom found + m → Reachable (state (Reading asked) found)
         → (last : List ℕ) × Reachable (state Deciding last)
-    unfolding offered
     ends zero {asked} {found} enough r = absurd (omega (arith, unsettled-few config found (reached r .reads .unsettled)))
     ends (suc m) {asked} {found} enough r =
         let at = reached r in
-        let next = find 1 refl r in
+        let next = find 1 (zero-offered config (at .start .safe)) r in
         let more = set found (asked - 1) 1 in
         let one : getD more (asked - 1) 0 ≡ 1 =
         getD-set-same found (asked - 1) 1 0 (omega (arith, at .typed, at .start .few, at .reads .most)) in

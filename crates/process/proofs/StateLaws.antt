@@ -12,15 +12,14 @@ use borrow.Author.Tests.{eqb-true, eqb-false, eq-eqb, leb-true, leb-false, le-le
 use borrow.Table.Steps.{cases}
 use Rattle.process.specs.declared.process.Process.{Process}
 use Rattle.process.specs.States.{noneFound, startable, codeSound, foundSound, lastEnds, readingSound, decidingSound, phaseSound, wellFormed}
-use Rattle.process.specs.Tallies.{foundOf, backs, backing, isBacked, backedOf, backed, settled}
-use Rattle.process.proofs.CodeLaws.{offered-decidable, bottom-decidable}
-use Rattle.process.proofs.TallyLaws.{is-backed-rule, reading-ends, settled-rule, backing-part}
+use Rattle.process.specs.Tallies.{foundOf, backs, backing, settled}
+use Rattle.process.proofs.TallyLaws.{reading-ends, settled-rule, backing-part}
 use Rattle.space.specs.declared.config.Config.{Config}
 use Rattle.space.specs.Bounds.{processes}
-use Rattle.space.specs.Configs.{sound, known}
-use Rattle.space.specs.Proposals.{offered, decidable}
+use Rattle.space.specs.Configs.{sound, hasProposals, known}
+use Rattle.space.specs.Proposals.{offered}
 use Rattle.space.specs.Shapes.{inRounds}
-use Rattle.space.proofs.ConfigLaws.{sound-rule}
+use Rattle.space.proofs.ConfigLaws.{sound-range}
 use Rattle.tuple.specs.Offsets.{bottom}
 
 -- ---- the parts of a well-formed state
@@ -30,14 +29,15 @@ pub record Startable (config : Config) : Type 0 where
   pub some : 1 ≤ config .n
   pub few : config .n ≤ processes
   pub faulty : 3 * config .t + 1 ≤ config .n
-  pub policy : config .policy ≡ 2
+  pub safe : sound config ≡ true
+  pub rests : hasProposals config ≡ true
 
 pub startable-parts : (config : Config) → startable config ≡ true → Startable config
 unfolding startable
 startable-parts config h =
     let parts = and-eq-true-iff (sound config) _ .0 h in
-    let s = sound-rule config .0 (parts .0) in
-    record { some = s .0; few = s .1; faulty = s .2; policy = eqb-true _ _ (parts .1) }
+    let s = sound-range config (parts .0) in
+    record { some = s .0; few = s .1; faulty = s .2; safe = parts .0; rests = parts .1 }
 
 pub known-rule : (config : Config) (k : ℕ) → (known config k ≡ true) ↔ ((1 ≤ k) × (k ≤ config .n))
 unfolding known
@@ -219,17 +219,3 @@ none-unsettled config found start none =
     cases (settled config found)
     (λ e. ⊎-elim (λ some. absurd (omega (arith, some .2, nothing (some .0)))) (λ many. absurd (omega (arith, nothing bottom))) (settled-rule config found .0 e))
     (λ e. e)
-
--- the value of its cas, an offset found or bottom, may be decided
-module _ (config : Config) (found : List ℕ) (default : config .policy ≡ 2) where
-  backed-of : (rest : List ℕ) → ((j : ℕ) → Noted config (getD rest j 0)) → decidable config (backedOf (config .t) found rest) ≡ true
-  unfolding backedOf
-  backed-of [] noted = bottom-decidable config default
-  backed-of (code ∷ rest) noted =
-      cases (isBacked (config .t) found code)
-      (λ e. rw e (⊎-elim (λ none. absurd (is-backed-rule (config .t) found code .0 e .0 none)) (λ may. offered-decidable config code may) (noted 0)))
-      (λ e. rw e (backed-of rest (λ j. noted (suc j))))
-
-  pub backed-decidable : {n : ℕ} → Codes config n found → decidable config (backed (config .t) found) ≡ true
-  unfolding backed
-  backed-decidable codes = backed-of found (code-noted codes)

@@ -17,13 +17,14 @@ use Rattle.process.specs.Procedure.{noted, valueOf, isDecided}
 use Rattle.process.specs.States.{startable, codeSound, foundSound, lastEnds, wellFormed}
 use Rattle.process.specs.Tallies.{backed, settled}
 use Rattle.process.proofs.process.Phase as phase
+use Rattle.process.proofs.ChoiceLaws.{backed-decidable}
 use Rattle.process.proofs.FitLaws.{value-decidable}
-use Rattle.process.proofs.StateLaws.{startable-parts, formed-parts, reading-rule, deciding-rule, backed-decidable}
+use Rattle.process.proofs.StateLaws.{startable-parts, formed-parts, reading-rule, deciding-rule}
 use Rattle.space.specs.declared.config.Config.{Config}
 use Rattle.space.specs.Bounds.{processes}
 use Rattle.space.specs.Configs.{sound}
 use Rattle.space.specs.Proposals.{decidable}
-use Rattle.space.proofs.ConfigLaws.{sound-rule}
+use Rattle.space.proofs.ConfigLaws.{sound-range}
 use Rattle.tuple.specs.declared.field.Tuple.{Tuple}
 use Rattle.tuple.specs.declared.reply.Outcome.{Outcome}
 use Rattle.tuple.specs.declared.reply.Outcome.the-variants.{Done, None, Found, Inserted, Held, Refused}
@@ -33,8 +34,8 @@ use Rattle.tuple.proofs.Lists.{places-more, places-stop}
 
 -- ---- configurations and processes
 
-pub sound-range : (config : Config) → sound config ≡ true → (config .n ≤ processes) × (config .t ≤ config .n)
-sound-range config h = let rule = sound-rule config .0 h in (rule .1, omega arith)
+pub sound-few : (config : Config) → sound config ≡ true → (config .n ≤ processes) × (config .t ≤ config .n)
+sound-few config h = let range = sound-range config h in (range .1, omega arith)
 
 pub startable-sound : (config : Config) → startable config ≡ true → sound config ≡ true
 unfolding startable
@@ -128,5 +129,5 @@ module _ (process : Process) (formed : wellFormed process ≡ true) where
       let parts = formed-parts process .0 formed in
       let start = startable-parts (process .config) (parts .0 .start) in
       let decides = deciding-rule (process .config) (process .found) .0 (rw deciding at (parts .1)) in
-      let own = backed-decidable (process .config) (process .found) (start .policy) (decides .codes) in
+      let own = backed-decidable (process .config) (process .found) start (decides .codes) (decides .enough) in
       value-decidable (process .config) (process .round) _ (reply .tuple) (reply .outcome) own (rw deciding at fit)

@@ -1,4 +1,4 @@
--- Document 01, "The procedure of a following seat": which replies fit. The tuple beside a reply that has none is blank.
+-- Document 01, "The procedure of a following seat", and document 02, 2.1: which replies fit. The tuple beside a reply that has none is blank.
 use Prim.Native.Nat.{ℕ}
 use mathlib.Core.Bool.{Bool, false, _&&_}
 use lib.Dec.{eqb}

@@ -1,30 +1,35 @@
--- The laws of the procedure, as claims over the definitions, in document 01's words.
+-- The laws of the procedure, as claims over the definitions, in the words of documents 01 and 02.
 use mathlib.Core.Path.{_≡_}
 use mathlib.Core.Logic.{_↔_, _⊎_}
-use mathlib.Core.Bool.{true, false, _&&_}
+use mathlib.Core.Bool.{true, false}
 use mathlib.Core.List.{List}
-use Prim.Native.Nat.{ℕ, _+_, _-_, _≤_, _<_}
+use Prim.Native.Nat.{ℕ, _+_, _-_, _*_, _≤_, _<_}
 use lib.Count.{ones}
+use lib.IntN.{pos}
 use lib.ListN.{length}
 use Rattle.process.specs.declared.process.Next.the-variants.{Decides, Refuses}
 use Rattle.process.specs.declared.process.Phase.the-variants.{Proposing, Decided}
 use Rattle.process.specs.declared.process.Process.{Process}
 use Rattle.process.specs.Asks.{rdpCall}
 use Rattle.process.specs.Fits.{fits}
-use Rattle.process.specs.Procedure.{proposable, started, resumed}
+use Rattle.process.specs.Procedure.{started, resumed}
 use Rattle.process.specs.Reachable.{Reachable}
-use Rattle.process.specs.States.{startable, wellFormed}
-use Rattle.process.specs.Tallies.{foundOf, backs, backing, backingSet, backed, settled, nextAfter}
+use Rattle.process.specs.States.{startable, foundSound, wellFormed}
+use Rattle.process.specs.Tallies.{foundOf, backs, backing, backingSet, backed, settled, total, nextAfter}
 use Rattle.space.specs.declared.config.Config.{Config}
-use Rattle.space.specs.Bounds.{processes}
+use Rattle.space.specs.Bounds.{processes, rounds}
 use Rattle.space.specs.Configs.{known}
 use Rattle.space.specs.Members.{Member}
-use Rattle.space.specs.Shapes.{inRounds}
+use Rattle.policy.specs.Shapes.{decidedCode}
+use Rattle.space.specs.Proposals.{offered}
+use Rattle.space.specs.Shapes.{proposedCode}
 use Rattle.tuple.specs.declared.offset.Offset.{Offset}
+use Rattle.tuple.specs.declared.offset.Offset.the-variants.{Hundredths}
 use Rattle.tuple.specs.declared.refusal.Refusal.{Refusal}
+use Rattle.tuple.specs.declared.reply.Outcome.the-variants.{Found, Held}
 use Rattle.tuple.specs.declared.reply.Reply.{Reply}
 use Rattle.tuple.specs.Fields.{blankCall}
-use Rattle.tuple.specs.Offsets.{bottom, offsetOf}
+use Rattle.tuple.specs.Offsets.{bottom, codeOf, offsetOf}
 use Rattle.tuple.specs.Refusals.{refusal}
 
 -- ---- states
@@ -33,13 +38,32 @@ use Rattle.tuple.specs.Refusals.{refusal}
 abbrev pub ReachableRule : Type 0
 ReachableRule = (process : Process) → length (process .found) ≡ processes → (wellFormed process ≡ true) ↔ Reachable process
 
+-- under policy 3 one that has decided has a choice, and never bottom
+abbrev pub ChoiceDecided : Type 0
+ChoiceDecided =
+    (process : Process) (code : ℕ)
+    → wellFormed process ≡ true
+    → process .config .policy ≡ 3
+    → process .phase ≡ Decided code
+    → (z : ℕ) × (z < process .config .k) × (code ≡ codeOf (Hundredths (pos z)))
+
+-- ---- which replies fit
+
+-- under policy 3 a found proposal, and a held decision, fits only if it is of a choice
+pub record ChoiceFit (process : Process) (reply : Reply) : Type 0 where
+  pub found : reply .outcome ≡ Found → (z : ℕ) × (z < process .config .k) × (proposedCode (reply .tuple) ≡ codeOf (Hundredths (pos z)))
+  pub held : reply .outcome ≡ Held → (z : ℕ) × (z < process .config .k) × (decidedCode (reply .tuple) ≡ codeOf (Hundredths (pos z)))
+
+abbrev pub ChoiceFits : Type 0
+ChoiceFits = (process : Process) (reply : Reply) → process .config .policy ≡ 3 → fits process reply ≡ true → ChoiceFit process reply
+
 -- ---- what starting and handing a reply answer
 
 -- starting is refused with 1, 6, 3: the first that holds
 pub record StartOrder (config : Config) (process round : ℕ) (offset : Offset) : Type 0 where
   pub unsound : startable config ≡ false → started config process round offset .next ≡ Refuses (refusal 1)
   pub stranger : startable config ≡ true → known config process ≡ false → started config process round offset .next ≡ Refuses (refusal 6)
-  pub beyond : startable config ≡ true → known config process ≡ true → inRounds round && proposable config offset ≡ false → started config process round offset .next ≡ Refuses (refusal 3)
+  pub beyond : startable config ≡ true → known config process ≡ true → (rounds ≤ round) ⊎ (offered config (codeOf offset) ≡ false) → started config process round offset .next ≡ Refuses (refusal 3)
 
 abbrev pub StartOrders : Type 0
 StartOrders = (config : Config) (process round : ℕ) (offset : Offset) → StartOrder config process round offset
@@ -78,6 +102,23 @@ SettledRule =
 -- n - t found processes end the reading
 abbrev pub ReadingEnds : Type 0
 ReadingEnds = (config : Config) (found : List ℕ) → config .n - config .t ≤ backing bottom found → settled config found ≡ true
+
+-- why policy 3 needs n to be at least (k + 1)t + 1: of k choices that n - t have made, one has more than t
+abbrev pub Pigeonhole : Type 0
+Pigeonhole = (n t k : ℕ) (size : ℕ → ℕ) → (k + 1) * t + 1 ≤ n → n - t ≤ total size k → (z : ℕ) × (z < k) × (t < size z)
+
+-- under policy 3 it reads until some choice has t + 1 found processes, and the value is such a choice
+pub record ChoiceReads (config : Config) (found : List ℕ) : Type 0 where
+  pub ends : (settled config found ≡ true) ↔ ((z : ℕ) × (z < config .k) × (config .t + 1 ≤ backing (codeOf (Hundredths (pos z))) found))
+  pub value : settled config found ≡ true → (z : ℕ) × (z < config .k) × (backed (config .t) found ≡ codeOf (Hundredths (pos z)))
+
+abbrev pub ChoiceReadsRule : Type 0
+ChoiceReadsRule =
+    (config : Config) (found : List ℕ)
+    → startable config ≡ true
+    → config .policy ≡ 3
+    → foundSound config (config .n) found ≡ true
+    → ChoiceReads config found
 
 -- the value is an offset that t + 1 found processes have proposed, or bottom if there is none
 pub record BackedRule (t : ℕ) (found : List ℕ) : Type 0 where

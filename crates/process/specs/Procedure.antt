@@ -1,4 +1,4 @@
--- Document 01, "The procedure of a following seat": starting a process, and handing it a reply.
+-- Document 01, "The procedure of a following seat", and document 02, 2.1: starting a process, and handing it a reply.
 use Prim.Native.Nat.{ℕ, _-_}
 use mathlib.Core.Bool.{Bool, true, false, cond, _&&_, _||_}
 use mathlib.Core.List.{List}

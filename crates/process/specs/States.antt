@@ -1,4 +1,4 @@
--- Document 01, "The procedure of a following seat" and "What is returned, and for what": a process's state (01's seat state), and the test
+-- Document 01, "The procedure of a following seat" and "What is returned, and for what", and document 02, 2.1: a process's state (01's seat state), and the test
 -- whether it is well formed. `Laws.ReachableRule` says that it passes exactly for the states that the procedure reaches by fitting replies.
 use Prim.Native.Nat.{ℕ, zero, suc}
 use mathlib.Core.Bool.{Bool, true, false, not, _&&_, _||_}
@@ -11,7 +11,7 @@ use Rattle.process.specs.declared.process.Process.{Process}
 use Rattle.process.specs.Tallies.{foundOf, settled}
 use Rattle.space.specs.declared.config.Config.{Config}
 use Rattle.space.specs.Bounds.{processes}
-use Rattle.space.specs.Configs.{sound, known, blankConfig}
+use Rattle.space.specs.Configs.{sound, hasProposals, known, blankConfig}
 use Rattle.space.specs.Proposals.{offered, decidable}
 use Rattle.space.specs.Shapes.{inRounds}
 
@@ -22,9 +22,9 @@ noneFound = replicate processes 0
 abbrev pub blankProcess : Process
 blankProcess = record { config = blankConfig; process = 0; round = 0; phase = Proposing; found = noneFound }
 
--- a sound configuration under policy 2
+-- a sound configuration under policy 2 or 3
 unfoldable pub startable : Config → Bool
-startable config = sound config && eqb (config .policy) 2
+startable config = sound config && hasProposals config
 
 -- a place holds nothing, or the code of an offset that may be proposed
 unfoldable pub codeSound : Config → ℕ → Bool → Bool

@@ -1,6 +1,6 @@
--- Document 01, "The procedure of a following seat": what a process has found. The list has a place for each process, from 1 on: the code of
+-- Document 01, "The procedure of a following seat", and document 02, 2.1: what a process has found. The list has a place for each process, from 1 on: the code of
 -- the offset that it was found to have proposed, or 0 while it is not found.
-use Prim.Native.Nat.{ℕ, _+_, _-_, _*_}
+use Prim.Native.Nat.{ℕ, zero, suc, _+_, _-_, _*_}
 use mathlib.Core.Bool.{Bool, cond, not, _&&_, _||_}
 use mathlib.Core.List.{List, [], _∷_}
 use lib.ListN.{take, drop, getD}
@@ -45,6 +45,11 @@ backed t found = backedOf t found found
 -- it stops reading: some offset has t + 1 found processes, or n - t processes are found
 unfoldable pub settled : Config → List ℕ → Bool
 settled config found = not (eqb (backed (config .t) found) bottom) || leb (config .n - config .t) (backing bottom found)
+
+-- the sum of the sizes of the choices 0 to k - 1
+unfoldable pub total : (ℕ → ℕ) → ℕ → ℕ
+total size zero = 0
+total size (suc k) = total size k + size k
 
 -- the first process from k on that is not found; these are the codes from its place on. 0 if there is none
 unfoldable pub freeFrom : ℕ → List ℕ → ℕ

@@ -85,12 +85,12 @@ impl Process {
     }
 }
 
-// Whether a process can start: a sound configuration under policy 2.
+// Whether a process can start: a sound configuration under policy 2 or 3.
 pub(crate) fn startable(config: Config) -> bool
     ensures { λ r. ⌜ r ≡ startable· config ⌝ }
 {
     if config.is_sound() {
-        config.policy == 2
+        config.has_proposals()
     } else {
         false
     }

@@ -41,7 +41,7 @@ parts s a b rest at e =
     let front : drop at s ≡ a ++ (b ++ rest) = e ∙ append-assoc a b rest in
     (front, sym (drop-drop (length a) at s) ∙ ap (drop (length a)) front ∙ drop-append-seam a (b ++ rest))
 
-number-back : (s rest : List ℕ) (at value : ℕ) → value ≤ largest → drop at s ≡ bytesOf value ++ rest
+pub number-back : (s rest : List ℕ) (at value : ℕ) → value ≤ largest → drop at s ≡ bytesOf value ++ rest
     → readNumber s at ≡ record { next = place (at + widthOf value); value = value }
 unfolding readNumber
 number-back s rest at value h e = ap numberStep (varint.read-back s rest at value h e)

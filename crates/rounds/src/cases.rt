@@ -15,17 +15,19 @@ use tuple::Offset;
 // The proposal of a process that makes no calls: it is out of range, so that the process's start is refused.
 pub(crate) const SILENT: i32 = LARGEST_OFFSET + 1;
 
-// Passes of a round on a fresh space. Processes 1 to 8 propose the offsets in order.
+// Passes of a round on a fresh space, under policy 3 if there are choices. Processes 1 to 8 propose the offsets in order, and those behind them
+// go through the offsets again.
 pub(crate) fn run(
     name: &[u8],
     n: u64,
     t: u64,
+    k: u64,
     round: u64,
     offsets: [i32; 8],
     passes: u32,
     strays: u32,
 ) -> Round {
-    let space = begin(name, n, t);
+    let space = begin(name, n, t, k);
     let config = space.config;
     let steps = started(config, round, offsets, 8);
     take_passes(Round { space, steps }, passes, strays)
@@ -33,7 +35,16 @@ pub(crate) fn run(
 
 // Process 4 is silent, so that processes 1 and 2 read on until process 3, which starts in the eighth pass, has proposed.
 pub(crate) fn late() {
-    let mut round = run(b"late", 4, 1, 3, [5, -5, SILENT, SILENT, 0, 0, 0, 0], 7, 0);
+    let mut round = run(
+        b"late",
+        4,
+        1,
+        0,
+        3,
+        [5, -5, SILENT, SILENT, 0, 0, 0, 0],
+        7,
+        0,
+    );
     let space = round.space;
     let config = space.config;
     round.steps[2] = start(config, 3, 3, Offset::Hundredths(-5));
@@ -44,7 +55,7 @@ pub(crate) fn late() {
 // propose the first r + 1 of the offsets.
 pub(crate) fn full() {
     let offsets = [-100, -50, 0, 50, 100, 150, 200, 250];
-    let mut space = begin(b"full", PROCESSES as u64, 4);
+    let mut space = begin(b"full", PROCESSES as u64, 4, 0);
     let config = space.config;
     for round in 0..8 {
         let steps = started(config, round as u64, offsets, round + 1);
@@ -54,10 +65,15 @@ pub(crate) fn full() {
 }
 
 // A fresh space, and the first line of a case.
-fn begin(name: &[u8], n: u64, t: u64) -> Space {
-    title(name, n, t);
-    let opened = space::fresh(Config { n, t, policy: 2 });
+fn begin(name: &[u8], n: u64, t: u64, k: u64) -> Space {
+    title(name, n, t, k);
+    let policy = policy_of(k);
+    let opened = space::fresh(Config { n, t, policy, k });
     opened.space
+}
+
+fn policy_of(k: u64) -> u64 {
+    if k == 0 { 2 } else { 3 }
 }
 
 // All processes, started with the first of the offsets, over and over. A process that is not one of the n is refused.

@@ -19,13 +19,17 @@ const LONGEST: usize = 64;
 
 // ---- lines
 
-// The first line of a case: its name, n and t.
-pub(crate) fn title(name: &[u8], n: u64, t: u64) {
+// The first line of a case: its name, n and t, and how many choices there are, if there are some.
+pub(crate) fn title(name: &[u8], n: u64, t: u64, k: u64) {
     io::write_all(STDOUT_FILENO, name);
     sign(b' ');
     io::print_decimal(STDOUT_FILENO, n);
     sign(b' ');
     io::print_decimal(STDOUT_FILENO, t);
+    if k != 0 {
+        sign(b' ');
+        io::print_decimal(STDOUT_FILENO, k);
+    }
     sign(b'\n');
 }
 

@@ -17,6 +17,7 @@ fn main() {
         4,
         1,
         0,
+        0,
         [40, 40, -40, SILENT, 0, 0, 0, 0],
         PASSES,
         stray::CALLS,
@@ -27,14 +28,53 @@ fn main() {
         4,
         1,
         0,
+        0,
         [-100_000, 0, 100_000, -1, 0, 0, 0, 0],
         PASSES,
         0,
     );
     // Two offsets that differ in sign only.
-    run(b"signs", 4, 1, 0, [40, -40, 40, -40, 0, 0, 0, 0], PASSES, 0);
+    run(
+        b"signs",
+        4,
+        1,
+        0,
+        0,
+        [40, -40, 40, -40, 0, 0, 0, 0],
+        PASSES,
+        0,
+    );
     late();
     // A process by itself.
-    run(b"one", 1, 0, 7, [-40, 0, 0, 0, 0, 0, 0, 0], PASSES, 0);
+    run(b"one", 1, 0, 0, 7, [-40, 0, 0, 0, 0, 0, 0, 0], PASSES, 0);
     full();
+    choices();
+}
+
+// The cases of policy 3.
+fn choices() {
+    // Processes 1 and 9 are faulty, and split the vote.
+    run(
+        b"choices",
+        9,
+        2,
+        3,
+        0,
+        [SILENT, 0, 1, 2, 0, 1, 2, 2],
+        PASSES,
+        stray::CALLS,
+    );
+    // They are silent, and only the seventh proposal that is found settles it.
+    run(
+        b"seventh",
+        9,
+        2,
+        3,
+        0,
+        [SILENT, 0, 1, 2, 0, 1, 2, 2],
+        PASSES,
+        0,
+    );
+    // Fifteen, and two choices.
+    run(b"pair", 15, 4, 2, 0, [0, 1, 0, 1, 0, 1, 0, 1], PASSES, 0);
 }

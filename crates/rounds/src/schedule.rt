@@ -25,7 +25,7 @@ struct Turn {
     step: Step,
 }
 
-// Takes passes, at the end of which a faulty process makes its calls, one in a pass.
+// Takes passes, at the end of which faulty processes make their calls, one in a pass.
 pub(crate) fn take_passes(begun: Round, passes: u32, strays: u32) -> Round {
     let mut round = begun;
     for pass in 0..passes {
@@ -73,7 +73,7 @@ fn take_turn(space: Space, step: Step) -> Turn {
 fn stray_turn(round: Round, pass: u32) -> Round {
     let space = round.space;
     let steps = round.steps;
-    let applied = make(space, stray::call(pass));
+    let applied = make(space, stray::call(space.config.policy, pass));
     let left = applied.space;
     Round { space: left, steps }
 }

@@ -1,4 +1,5 @@
-// The fixed calls of a faulty process, process 4 in round 0, one for each pass. -40 has the code 80, 40 the code 81.
+// The fixed calls of faulty processes in round 0, one for each pass: of process 4 under policy 2, and of 1 and 9 under policy 3. -40 has the code
+// 80, 40 the code 81, and the choices 0, 1 and 2 have the codes 1, 3 and 5.
 use tuple::CAS;
 use tuple::COUNT;
 use tuple::Call;
@@ -16,20 +17,38 @@ use tuple::WORD;
 
 pub(crate) const CALLS: u32 = 4;
 
+pub(crate) fn call(policy: u64, pass: u32) -> Call {
+    if policy == 3 {
+        choice_call(pass)
+    } else {
+        default_call(pass)
+    }
+}
+
 // Its own proposal, a second one, a decision that process 1 does not back, and a proposal for process 1.
-pub(crate) fn call(pass: u32) -> Call {
+fn default_call(pass: u32) -> Call {
     match pass {
-        0 => propose(4, 80),
-        1 => propose(4, 81),
-        2 => decide(80, 9),
-        _ => propose(1, 80),
+        0 => propose(4, 4, 80),
+        1 => propose(4, 4, 81),
+        2 => decide(4, 80, 9),
+        _ => propose(4, 1, 80),
+    }
+}
+
+// Their own proposals, of two choices, a decision that process 1 does not back, and bottom, with all processes.
+fn choice_call(pass: u32) -> Call {
+    match pass {
+        0 => propose(1, 1, 1),
+        1 => propose(9, 9, 3),
+        2 => decide(1, 5, 73),
+        _ => decide(9, 0, 511),
     }
 }
 
 // An out of (word 1, count 0, count process, offset), the offset by its code.
-fn propose(process: u64, code: u64) -> Call {
+fn propose(caller: u32, process: u64, code: u64) -> Call {
     Call {
-        process: 4,
+        process: caller,
         code: OUT,
         template: Tuple::blank(),
         entry: four(
@@ -41,9 +60,9 @@ fn propose(process: u64, code: u64) -> Call {
 }
 
 // A cas of (word 2, count 0, offset, processes), the offset by its code, where (word 2, count 0, open offset, any processes) is the template.
-fn decide(code: u64, set: u64) -> Call {
+fn decide(caller: u32, code: u64, set: u64) -> Call {
     Call {
-        process: 4,
+        process: caller,
         code: CAS,
         template: four(
             DECISION,

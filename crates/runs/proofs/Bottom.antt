@@ -12,7 +12,7 @@ use borrow.Table.Steps.{cases}
 use Rattle.runs.specs.Correct.{amount}
 use Rattle.runs.specs.Decisions.{Decision, hasDoneProposal}
 use Rattle.runs.specs.Theorem.{SoundConfig}
-use Rattle.runs.proofs.Configs.{bottom-borne, permitted-cas}
+use Rattle.runs.proofs.Configs.{config-enough, bottom-borne, permitted-cas}
 use Rattle.runs.proofs.Bearing.{borne, borne-round, borne-offset}
 use Rattle.runs.proofs.Counts.{quorum}
 use Rattle.runs.proofs.Proposing.{other, FewOthers, proposed-more, standing-proposed, proposed-stands}
@@ -79,7 +79,7 @@ no-bottom {config} safe calls s v others is-bottom =
     let round = roundOf entry in
     let this = proposedThis safe calls (b .before) (b .call ∷ b .behind) (b .split) round v in
     let other = proposedOther safe calls (b .before) (b .call ∷ b .behind) (b .split) round v in
-    let many = quorum (config .n) (config .t) (setOf entry) this other (omega (arith, safe .enough)) inside (bears .enough)
+    let many = quorum (config .n) (config .t) (setOf entry) this other (config-enough safe) inside (bears .enough)
     (λ k member. let p = bears .each k member in this-or-other safe calls (b .before) (b .call ∷ b .behind) (b .split) round v k (p .0) (p .1))
     (this-few safe calls (b .before) (b .call ∷ b .behind) (b .split) round v (setOf entry) inside (bears .few (codeOf v))) in
     let few : amount other (config .n) 1 ≤ config .t = rw (borne-round safe calls s) others in

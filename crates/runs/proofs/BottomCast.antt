@@ -1,5 +1,5 @@
 -- The cas of a process is permitted also where it is of bottom: of the n - t that it has found at most t proposed any one offset. From the laws of
--- policy 2 and of the tallies; one proposal for each process and round counts.
+-- policy 2, of the value, and of the tallies; one proposal for each process and round counts.
 use mathlib.Core.Path.{_≡_, refl, sym, ap, _∙_, subst}
 use mathlib.Core.Logic.{_↔_, ⊎-elim}
 use Prim.Native.Nat.{ℕ, _-_, _/_, _^_, _≤_, _<_}
@@ -13,13 +13,14 @@ use lib.Dec.{eqb}
 use borrow.Author.Tests.{eqb-true, eqb-false, eq-eqb, ne-eqb}
 use borrow.Table.Steps.{cases}
 use Rattle.process.specs.Tallies.{foundOf, backs, backing, backingSet, backed, settled}
-use Rattle.process.proofs.CodeLaws.{offered-some}
-use Rattle.process.proofs.StateLaws.{Codes}
+use Rattle.space.proofs.CodeLaws.{offered-some, bottom-decidable, bottom-default}
+use Rattle.process.proofs.ChoiceLaws.{backed-decidable}
+use Rattle.process.proofs.StateLaws.{Codes, startable-parts}
 use Rattle.process.proofs.TallyLaws.{backs-same, backed-rule, settled-rule, set-rule}
 use Rattle.runs.specs.Laws.Bears.{bears-bottom}
 use Rattle.runs.specs.Theorem.{SoundConfig}
 use Rattle.runs.proofs.Casting.{Seen, found-bottom, member-found, call, shaped, offset-permitted}
-use Rattle.runs.proofs.Configs.{permitted-cas}
+use Rattle.runs.proofs.Configs.{config-startable, permitted-cas}
 use Rattle.runs.proofs.Fair.{Fair}
 use Rattle.space.specs.declared.config.Config.{Config}
 use Rattle.space.specs.Bounds.{rounds}
@@ -29,7 +30,7 @@ use Rattle.policy.specs.declared.verdicts.Verdict.the-variants.{Permit}
 use Rattle.policy.specs.Policies.{verdictOn}
 use Rattle.tuple.specs.Offsets.{bottom}
 use Rattle.space.specs.Shapes.{proposedCode}
-use Rattle.calls.proofs.DefaultLaws.{same-proposal}
+use Rattle.calls.proofs.JustifiedLaws.{same-proposal}
 use Rattle.space.proofs.SpaceRules.{place}
 use Rattle.space.proofs.TallyLaws.{same-set}
 use Rattle.tuple.specs.declared.field.Tuple.{Tuple}
@@ -72,13 +73,13 @@ module _ {config : Config} (s : SoundConfig config) {tuples : List Tuple} (fair 
         )) in
         rw (same, set-rule w found .size) few
 
-    bottom-permitted : config .n - config .t ≤ backing bottom found → ((w : ℕ) → (w ≡ bottom → ⊥) → backing w found ≤ config .t)
+    bottom-permitted : config .policy ≡ 2 → config .n - config .t ≤ backing bottom found → ((w : ℕ) → (w ≡ bottom → ⊥) → backing w found ≤ config .t)
         → verdictOn config tuples (call s fair q round early found codes seen bottom) ≡ Permit
     unfolding ones
-    bottom-permitted enough few =
+    bottom-permitted two enough few =
         permitted-cas config tuples (call s fair q round early found codes seen bottom) s refl .1 (
-          shaped s fair q round early found codes seen bottom,
-          bears-bottom (s .policy) refl (record {
+          shaped s fair q round early found codes seen bottom (bottom-decidable config two),
+          bears-bottom two refl (record {
             enough = rw (set-rule bottom found .size) enough;
             each = λ k m. let is = member-found bottom found k m in (foundOf found k, seen k (is .0) (is .2));
             few = λ w set members. cases (eqb w bottom)
@@ -94,9 +95,10 @@ module _ {config : Config} (s : SoundConfig config) {tuples : List Tuple} (fair 
     permitted h =
         let value = backed (config .t) found in
         let rule = backed-rule (config .t) found in
+        let may = backed-decidable config found (startable-parts config (config-startable s)) codes h in
         cases (eqb value bottom)
         (λ e. let none = eqb-true value bottom e in
-        rw none (bottom-permitted
+        rw none (bottom-permitted (bottom-default config (rw none at may))
         (⊎-elim (λ some. absurd (omega (arith, some .2, rule .none none (some .0) (some .1)))) (λ many. many) (settled-rule config found .0 h))
         (rule .none none)))
-        (λ e. let some = eqb-false value bottom e in offset-permitted s fair q round early found codes seen value some (rule .some some))
+        (λ e. let some = eqb-false value bottom e in offset-permitted s fair q round early found codes seen value may some (rule .some some))

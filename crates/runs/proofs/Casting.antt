@@ -19,7 +19,7 @@ use Rattle.runs.proofs.Fair.{Fair}
 use Rattle.space.specs.declared.config.Config.{Config}
 use Rattle.space.specs.Bounds.{rounds}
 use Rattle.space.specs.Members.{Member}
-use Rattle.space.specs.Proposals.{Proposed}
+use Rattle.space.specs.Proposals.{decidable, Proposed}
 use Rattle.policy.specs.Laws.{DecisionCall}
 use Rattle.policy.specs.declared.verdicts.Verdict.the-variants.{Permit}
 use Rattle.policy.specs.Policies.{verdictOn}
@@ -55,9 +55,9 @@ module _ {config : Config} (s : SoundConfig config) {tuples : List Tuple} (fair 
   abbrev pub call : ℕ → Call
   call value = casCall q round value (backingSet value found)
 
-  pub shaped : (value : ℕ) → DecisionCall config (call value)
+  pub shaped : (value : ℕ) → decidable config value ≡ true → DecisionCall config (call value)
   unfolding isDecisionTemplate isDecision
-  shaped value =
+  shaped value may =
       record {
         template = refl;
         entry = refl;
@@ -67,12 +67,13 @@ module _ {config : Config} (s : SoundConfig config) {tuples : List Tuple} (fair 
             let is = member-found value found k m in
             cases (ltb (k - 1) (config .n)) (λ e. omega (arith, ltb-true (k - 1) (config .n) e))
             (λ e. absurd (is .2 (codes .unused (k - 1) (ltb-false (k - 1) (config .n) e))));
+        may = may;
       }
 
-  pub offset-permitted : (value : ℕ) → (value ≡ bottom → ⊥) → config .t + 1 ≤ backing value found → verdictOn config tuples (call value) ≡ Permit
-  offset-permitted value some enough =
+  pub offset-permitted : (value : ℕ) → decidable config value ≡ true → (value ≡ bottom → ⊥) → config .t + 1 ≤ backing value found → verdictOn config tuples (call value) ≡ Permit
+  offset-permitted value may some enough =
       permitted-cas config tuples (call value) s refl .1 (
-        shaped value,
+        shaped value may,
         bears-offset some (record {
           enough = rw (set-rule value found .size) enough;
           each = λ k m.

@@ -24,10 +24,10 @@ use Rattle.runs.specs.Theorem.{SoundConfig, turnOn}
 use Rattle.runs.proofs.Going.{has-more, skips, correct-skips, within, out-due, between, fitting, DecidedIn, decided-or-busy, busy-call}
 use Rattle.runs.proofs.Promptness.{own-begun, has-within}
 use Rattle.runs.proofs.Proposing.{proposed-more}
-use Rattle.runs.proofs.Configs.{config-startable}
+use Rattle.runs.proofs.Configs.{config-sound, config-startable}
 use Rattle.runs.proofs.Tests.{proposed-rule}
 use Rattle.runs.proofs.Turning.{turns-append}
-use Rattle.space.specs.Proposals.{offered}
+use Rattle.space.proofs.CodeLaws.{zero-offered}
 use Rattle.space.specs.declared.config.Config.{Config}
 use Rattle.space.specs.Shapes.{isProposal}
 use Rattle.calls.specs.Turns.{last, applied, turns, turnsFrom}
@@ -69,10 +69,9 @@ opened (suc m) = opened m ++ (opening (suc m) ∷ [])
 
 module _ {config : Config} (s : SoundConfig config) where
   begins : (q : ℕ) → 1 ≤ q → q ≤ config .n → started config q 0 zero-offset ≡ begun config q 0 zero-offset
-  unfolding offered
   begins q low high =
       started-begun config q 0 zero-offset
-      (record { start = config-startable s; member = known-rule config q .1 (low, high); in-rounds = refl }) refl
+      (record { start = config-startable s; member = known-rule config q .1 (low, high); in-rounds = refl }) (zero-offered config (config-sound s))
 
   -- correct, and its proposal in round 0 is done
   abbrev Proposer : List Call → ℕ → Type 0

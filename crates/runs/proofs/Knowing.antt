@@ -23,21 +23,20 @@ use Rattle.process.specs.States.{wellFormed}
 use Rattle.process.specs.Tallies.{foundOf, backingSet, backed, settled, nextAfter}
 use Rattle.process.proofs.FitLaws.{answer-rule, held-rule}
 use Rattle.process.proofs.KeptLaws.{resumed-advanced, resumed-formed}
-use Rattle.process.proofs.CodeLaws.{offered-some, decidable-small}
-use Rattle.process.proofs.StateLaws.{Reads, formed-parts, reading-rule, deciding-rule, backed-decidable}
+use Rattle.space.proofs.CodeLaws.{offered-some, decidable-small}
+use Rattle.process.proofs.ChoiceLaws.{backed-decidable}
+use Rattle.process.proofs.StateLaws.{Reads, startable-parts, formed-parts, reading-rule, deciding-rule}
 use Rattle.process.proofs.TallySteps.{set-most}
 use Rattle.runs.specs.Theorem.{SoundConfig}
 use Rattle.runs.proofs.BottomCast.{permitted}
 use Rattle.runs.proofs.Casting.{Seen}
-use Rattle.runs.proofs.Configs.{config-policy, config-decidable}
+use Rattle.runs.proofs.Configs.{config-startable}
 use Rattle.runs.proofs.Fair.{Fair}
 use Rattle.runs.proofs.Replies as space
 use Rattle.runs.proofs.Standing.{Stands}
 use Rattle.space.specs.declared.config.Config.{Config}
 use Rattle.calls.specs.declared.turn.Applied.{Applied}
 use Rattle.space.specs.Bounds.{processes, rounds}
-use Rattle.policy.proofs.DecisionLaws.{decision-parts}
-use Rattle.space.proofs.ShapeLaws.{small-code}
 use Rattle.policy.specs.Shapes.{decidedCode, isDecision}
 use Rattle.space.specs.Proposals.{Proposed}
 use Rattle.space.specs.Shapes.{processOf, proposedCode, isProposal, roundOf}
@@ -213,9 +212,9 @@ module _ {config : Config} (s : SoundConfig config) {q : ℕ} (low : 1 ≤ q) (h
             (λ (new : List·Memᴰ tuple (entry ∷ [])). absurd (false≢true (rw (List·Memᴰ·eq-of-singleton new) at shape))) (List·Memᴰ·append-cases tuples m);
         stands = record { tuple = entry; there = Memᴰ·append-right tuples (List·Memᴰ·head refl); shape = refl; in-round = refl; of = refl };
       }
-  settles done (space.Cast.holds tuple there entry shape r inside) =
+  settles done (space.Cast.holds tuple there entry shape r inside may) =
       let fit : fits state (done .reply) ≡ true = held-rule config round tuple .1
-      (record { entry = entry; shape = shape; in-round = r; may = config-decidable s (small-code tuple 2 entry (omega (arith, decision-parts tuple shape .0)) (decision-parts tuple shape .1)); inside = inside }) in
+      (record { entry = entry; shape = shape; in-round = r; may = may; inside = inside }) in
       record {
         fit = fit;
         next = tuples;
@@ -233,7 +232,7 @@ module _ {config : Config} (s : SoundConfig config) {q : ℕ} (low : 1 ≤ q) (h
       let parts = formed-parts state .0 (knows .formed) in
       let casts = deciding-rule config found .0 (parts .1) in
       let early : round < rounds = ltb-true round rounds (parts .0 .in-rounds) in
-      let small : value ≤ largestCode = decidable-small config value (backed-decidable config found (config-policy s) (casts .codes)) in
+      let small : value ≤ largestCode = decidable-small config value (backed-decidable config found (startable-parts config (config-startable s)) (casts .codes) (casts .enough)) in
       let few : backingSet value found < 2 ^ processes = set-most value found processes (omega (arith, knows .long)) in
       settles _ (space.casts s fair q round value (backingSet value found) low high early small (omega arith)
       (permitted s fair q round early found (casts .codes) (knows .seen) (casts .enough)))

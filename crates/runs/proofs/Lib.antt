@@ -4,6 +4,7 @@ pub mod Bearing
 pub mod Bottom
 pub mod BottomCast
 pub mod Casting
+pub mod Choosing
 pub mod Configs
 pub mod Counts
 pub mod Fair

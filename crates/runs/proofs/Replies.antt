@@ -16,7 +16,7 @@ use Rattle.runs.proofs.Shapes.{proposal-matches, matches-proposal, matc
 use Rattle.space.specs.declared.config.Config.{Config}
 use Rattle.calls.specs.Changes.{carriedOut}
 use Rattle.calls.specs.Effects.{effect, appends, rdpEffect, casEffect}
-use Rattle.policy.specs.Shapes.{setOf, isDecision}
+use Rattle.policy.specs.Shapes.{decidedCode, setOf, isDecision}
 use Rattle.space.specs.Members.{within}
 use Rattle.policy.specs.declared.verdicts.Verdict.the-variants.{Permit}
 use Rattle.policy.specs.Policies.{verdictOn, verdict}
@@ -24,7 +24,7 @@ use Rattle.space.specs.Spaces.{spaceOf}
 use Rattle.calls.specs.declared.turn.Applied.{Applied}
 use Rattle.space.specs.Bounds.{rounds}
 use Rattle.space.specs.Configs.{known}
-use Rattle.space.specs.Proposals.{offered}
+use Rattle.space.specs.Proposals.{offered, decidable}
 use Rattle.space.specs.Shapes.{processOf, isProposal, roundOf}
 use Rattle.calls.specs.Turns.{firstRefusal, judged, carriedBy, applied}
 use Rattle.calls.proofs.CallSteps.{formed-bounded}
@@ -129,7 +129,7 @@ module _ {config : Config} (s : SoundConfig config) {tuples : List Tuple} (fair 
   pub data Cast (q r code set : ℕ) : Applied → Type 0 where
     puts : Cast q r code set (record { reply = record { outcome = Inserted; tuple = blankTuple }; space = spaceOf config (tuples ++ (decisionEntry r code set ∷ [])) })
     holds : (tuple : Tuple) → List·Memᴰ tuple tuples → isEntry tuple ≡ true → isDecision tuple ≡ true → roundOf tuple ≡ r → within (config .n) (setOf tuple) ≡ true
-        → Cast q r code set (record { reply = record { outcome = Held; tuple = tuple }; space = spaceOf config tuples })
+        → decidable config (decidedCode tuple) ≡ true → Cast q r code set (record { reply = record { outcome = Held; tuple = tuple }; space = spaceOf config tuples })
 
   found-cast : (q r code set : ℕ) (found : Found·) → oldestOf tuples (decisionTemplate r) ≡ found
       → applied (spaceOf config tuples) (casCall q r code set) ≡ carriedBy (spaceOf config tuples) (casCall q r code set) (casEffect tuples found)
@@ -140,7 +140,7 @@ module _ {config : Config} (s : SoundConfig config) {tuples : List Tuple} (fair 
       let tuple = getD tuples i blankTuple in
       let m = stands tuples i (rule .0) in
       let is = matches-decision r (sort-of s (fair .tidy .each tuple m)) (rule .1) in
-      holds tuple m (fair .lawful .entries tuple m) (is .0) (is .1) (is .2)
+      holds tuple m (fair .lawful .entries tuple m) (is .0) (is .1) (is .2) (is .3)
   found-cast q r code set Nowhere e same =
       let has = room (casCall q r code set) Inserted same in
       rw (has, carried-rules config tuples (decisionEntry r code set) .append (ltb-true (length tuples) capacity has)) puts

@@ -10,8 +10,9 @@ use Rattle.process.specs.Asks.{proposalTemplate, decisionTemplate}
 use Rattle.runs.proofs.Configs.{Sort}
 use Rattle.runs.proofs.Configs.Sort.{proposal, decision}
 use Rattle.space.specs.declared.config.Config.{Config}
-use Rattle.policy.specs.Shapes.{setOf, isDecision}
+use Rattle.policy.specs.Shapes.{decidedCode, setOf, isDecision}
 use Rattle.space.specs.Members.{within}
+use Rattle.space.specs.Proposals.{decidable}
 use Rattle.space.specs.Shapes.{processOf, isProposal, roundOf}
 use Rattle.tuple.specs.Shapes.{field, is, says}
 use Rattle.calls.proofs.Effects.{Proposal}
@@ -86,17 +87,17 @@ module _ {config : Config} {tuple : Tuple} where
   matches-proposal round process (proposal p) h =
       let fits = matches-rule (proposalTemplate round process) tuple (omega arith) (proposal-shape tuple (p .shape) .long) .0 h .1 in
       (p, sym (fits 1 (omega arith) .value refl), sym (fits 2 (omega arith) .value refl))
-  matches-proposal round process (decision shaped inside) h =
+  matches-proposal round process (decision shaped inside may) h =
       let s = decision-shape tuple shaped in
       let fits = matches-rule (proposalTemplate round process) tuple (omega arith) (s .long) .0 h .1 in
       absurd (omega (arith, fits 0 (omega arith) .value refl, s .first .1))
 
   -- what matches a template for a decision is one
   pub matches-decision : (round : ℕ) → Sort config tuple → matches (decisionTemplate round) tuple ≡ true
-      → (isDecision tuple ≡ true) × (roundOf tuple ≡ round) × (within (config .n) (setOf tuple) ≡ true)
-  matches-decision round (decision shaped inside) h =
+      → (isDecision tuple ≡ true) × (roundOf tuple ≡ round) × (within (config .n) (setOf tuple) ≡ true) × (decidable config (decidedCode tuple) ≡ true)
+  matches-decision round (decision shaped inside may) h =
       let fits = matches-rule (decisionTemplate round) tuple (omega arith) (decision-shape tuple shaped .long) .0 h .1 in
-      (shaped, sym (fits 1 (omega arith) .value refl), inside)
+      (shaped, sym (fits 1 (omega arith) .value refl), inside, may)
   matches-decision round (proposal p) h =
       let s = proposal-shape tuple (p .shape) in
       let fits = matches-rule (decisionTemplate round) tuple (omega arith) (s .long) .0 h .1 in

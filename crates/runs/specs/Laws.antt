@@ -2,10 +2,11 @@
 use mathlib.Core.Path.{_≡_}
 use mathlib.Core.Bool.{Bool, true, false, not, _||_}
 use mathlib.Core.List.{List, [], _∷_, _++_}
-use mathlib.Core.Logic.{_↔_}
+use mathlib.Core.Logic.{_↔_, _⊎_}
 use Prim.Native.Nat.{ℕ, _+_, _-_, _*_, _≤_, _<_}
 use lib.Count.{ones}
 use lib.Dec.{eqb}
+use lib.IntN.{pos}
 use lib.ListN.{length}
 use Rattle.process.specs.declared.process.Next.the-variants.{Calls}
 use Rattle.process.specs.declared.process.Process.{Process}
@@ -14,10 +15,11 @@ use Rattle.process.specs.Procedure.{started}
 use Rattle.runs.specs.Correct.{Watch, sameCall, listed, due, stateOf, wrong, monitored, Correct, correct, amount}
 use Rattle.runs.specs.Correct.Standing.{idle, busy, stuck}
 use Rattle.runs.specs.Decisions.{Decision, DoneProposal, hasDoneProposal, GivenOut, HasDecided}
-use Rattle.runs.specs.Theorem.{SoundConfig}
+use Rattle.runs.specs.Theorem.{SoundConfig, FewFaulty}
 use Rattle.space.specs.declared.config.Config.{Config}
 use Rattle.space.specs.declared.space.Opening.the-variants.{Stands}
 use Rattle.policy.specs.Shapes.{decidedCode}
+use Rattle.space.specs.Configs.{sound}
 use Rattle.space.specs.Members.{Member, within, counted}
 use Rattle.space.specs.Spaces.{spaceOf, freshOf}
 use Rattle.policy.specs.Laws.{DecisionCall, BearsOffset, BearsBottom}
@@ -28,7 +30,7 @@ use Rattle.calls.specs.Turns.{last, Turn, applied, turns}
 use Rattle.tuple.specs.declared.field.Call.{Call}
 use Rattle.tuple.specs.declared.field.Tuple.{Tuple}
 use Rattle.tuple.specs.declared.offset.Offset.{Offset}
-use Rattle.tuple.specs.declared.offset.Offset.the-variants.{Bottom}
+use Rattle.tuple.specs.declared.offset.Offset.the-variants.{Bottom, Hundredths}
 use Rattle.tuple.specs.Fields.{cas}
 
 -- ---- the tests say what they should
@@ -68,6 +70,10 @@ WrongRule =
 
 -- ---- a run has a space
 
+-- the theorem's hypothesis is a sound configuration under policy 2 or 3
+abbrev pub Hypothesis : Type 0
+Hypothesis = (config : Config) → SoundConfig config ↔ ((sound config ≡ true) × ((config .policy ≡ 2) ⊎ (config .policy ≡ 3)))
+
 -- the fresh space of such a configuration stands, and holds nothing
 abbrev pub Opens : Type 0
 Opens = (config : Config) → SoundConfig config → freshOf config ≡ record { opening = Stands; space = spaceOf config [] }
@@ -87,9 +93,30 @@ PermittedCas =
     → call .code ≡ cas
     → (verdictOn config tuples call ≡ Permit) ↔ (DecisionCall config call × Bears config tuples (call .entry))
 
+-- ---- under policy 3
+
+-- every decision given out is one of the offsets 0 to k - 1, however many are faulty
+abbrev pub Chosen : Type 0
+Chosen =
+    (config : Config) (calls : List Call) (d : Decision)
+    → SoundConfig config
+    → config .policy ≡ 3
+    → GivenOut config calls d
+    → (z : ℕ) × (z < config .k) × (d .offset ≡ Hundredths (pos z))
+
+-- so validity holds of every decision: a correct process proposed it in that round
+abbrev pub ChosenValid : Type 0
+ChosenValid =
+    (config : Config) (calls : List Call) (d : Decision)
+    → SoundConfig config
+    → config .policy ≡ 3
+    → FewFaulty config calls
+    → GivenOut config calls d
+    → (process : ℕ) × Correct config calls process × DoneProposal (turns config calls) (d .round) process (d .offset)
+
 -- ---- behind unanimity, with no word of correctness
 
--- why n is at least 3t + 1: of n - t processes, each of which passes one of two tests, at most t the first, more than t pass the second
+-- why policy 2 needs n to be at least 3t + 1: of n - t processes, each of which passes one of two tests, at most t the first, more than t pass the second
 abbrev pub Quorum : Type 0
 Quorum =
     (n t set : ℕ) (this other : ℕ → Bool)

@@ -1,4 +1,4 @@
--- Demand 3: one claim over every list of calls from a fresh space under policy 2.
+-- Demand 3, and document 02, 2.1: one claim over every list of calls from a fresh space under policy 2 or 3.
 use mathlib.Core.Path.{_≡_}
 use mathlib.Core.Bool.{true, not}
 use mathlib.Core.List.{List, _∷_, _++_}
@@ -16,12 +16,16 @@ use Rattle.tuple.specs.declared.offset.Offset.the-variants.{Bottom}
 
 -- ---- the hypotheses
 
--- a sound configuration under policy 2
+-- what the policy needs: policy 2 that k is 0 and n at least 3t + 1; policy 3 that k is 2 to 8 and n at least (k + 1)t + 1
+pub data Needs (config : Config) : Type 0 where
+  default : config .policy ≡ 2 → config .k ≡ 0 → 3 * config .t + 1 ≤ config .n → Needs config
+  choice : config .policy ≡ 3 → 2 ≤ config .k → config .k ≤ 8 → (config .k + 1) * config .t + 1 ≤ config .n → Needs config
+
+-- a sound configuration under one of these
 pub record SoundConfig (config : Config) : Type 0 where
   pub some : 1 ≤ config .n
   pub most : config .n ≤ processes
-  pub enough : 3 * config .t + 1 ≤ config .n
-  pub policy : config .policy ≡ 2
+  pub policy : Needs config
 
 -- of the processes 1 to n at most t are faulty, that is, not correct
 abbrev pub FewFaulty : Config → List Call → Type 0

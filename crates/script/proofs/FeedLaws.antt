@@ -4,11 +4,13 @@ use Prim.Native.Nat.{ℕ, suc, _+_}
 use native.Mathlib.Omega.{arith}
 use mathlib.Core.List.{List, [], _∷_, _++_, append-assoc}
 use lib.ListN.{length}
+use lib.Dec.{eqb}
+use borrow.Table.Steps.{cases}
 use Rattle.script.specs.Laws.{LineRule}
 use Rattle.script.specs.Lines.{numbered, unread}
 use Rattle.script.specs.Printing.{linesFrom, printed, text}
 use Rattle.script.specs.Scripts.{Ran}
-use Rattle.script.specs.Texts.{boardText, tuplesText, configLine, unreadLine, heldLine}
+use Rattle.script.specs.Texts.{boardText, tuplesText, choicesText, configLine, unreadLine, heldLine}
 use Rattle.calls.specs.Turns.{Turn}
 use Rattle.space.specs.declared.config.Config.{Config}
 use Rattle.space.specs.declared.space.Space.{Space}
@@ -16,22 +18,28 @@ use Rattle.space.specs.Spaces.{held}
 use Rattle.text.specs.Digits.{decimal}
 use Rattle.text.specs.Lines.{cutFrom, linesOf}
 use Rattle.text.specs.Texts.{gap, spaced, refusalText, replyText, refusedLine}
-use Rattle.text.proofs.FeedLaws.{plain, plain-test, plain-both, line-first, decimal-plain, spaced-plain, refusal-plain, reply-lines}
+use Rattle.text.proofs.FeedLaws.{Plain, plain, plain-test, plain-both, line-first, decimal-plain, spaced-plain, refusal-plain, reply-lines}
 use Rattle.tuple.specs.declared.fault.Fault.{Fault}
 use Rattle.tuple.specs.declared.fault.Fault.the-variants.{Absent, Present}
 use Rattle.tuple.specs.declared.refusal.Refusal.{Refusal}
 
+choices-plain : (config : Config) → Plain (choicesText config)
+unfolding choicesText plain
+choices-plain config = cases (eqb (config .policy) 3) (λ e. rw e (spaced-plain (config .k))) (λ e. rw e (plain-test [] refl))
+
 config-first : (config : Config) (rest : List ℕ)
-    → linesOf (configLine config ++ rest) ≡ (boardText ++ (spaced (config .n) ++ (spaced (config .t) ++ spaced (config .policy)))) ∷ linesOf rest
+    → linesOf (configLine config ++ rest) ≡ (boardText ++ (spaced (config .n) ++ (spaced (config .t) ++ (spaced (config .policy) ++ choicesText config)))) ∷ linesOf rest
 unfolding configLine plain
 config-first config rest =
     let n = spaced (config .n) in
     let t = spaced (config .t) in
     let policy = spaced (config .policy) in
+    let k = choicesText config in
     ap linesOf (simp append-assoc)
-    ∙ line-first (boardText ++ (n ++ (t ++ policy))) rest
-    (plain-both boardText (n ++ (t ++ policy)) (plain-test boardText refl)
-    (plain-both n (t ++ policy) (spaced-plain (config .n)) (plain-both t policy (spaced-plain (config .t)) (spaced-plain (config .policy)))))
+    ∙ line-first (boardText ++ (n ++ (t ++ (policy ++ k)))) rest
+    (plain-both boardText (n ++ (t ++ (policy ++ k))) (plain-test boardText refl)
+    (plain-both n (t ++ (policy ++ k)) (spaced-plain (config .n))
+    (plain-both t (policy ++ k) (spaced-plain (config .t)) (plain-both policy k (spaced-plain (config .policy)) (choices-plain config)))))
 
 unread-first : (number : ℕ) (why : Refusal) (rest : List ℕ) → linesOf (unreadLine number why ++ rest) ≡ (decimal number ++ (gap ++ refusalText why)) ∷ linesOf rest
 unfolding unreadLine refusedLine plain
@@ -60,8 +68,8 @@ lines-all number (turn ∷ made) fault space =
     ∙ ap (λ (l : List (List ℕ)). (decimal number ++ replyText (turn .reply)) ∷ l) (lines-all (number + 1) made fault space))
 
 pub line-rule : LineRule
-unfolding text printed
+unfolding text printed choicesText
 line-rule s config made fault space e =
     ap (λ (r : Ran). linesOf (printed r)) e
     ∙ config-first config (linesFrom 1 made fault space)
-    ∙ ap (λ (l : List (List ℕ)). (boardText ++ (spaced (config .n) ++ (spaced (config .t) ++ spaced (config .policy)))) ∷ l) (lines-all 1 made fault space)
+    ∙ ap (λ (l : List (List ℕ)). (boardText ++ (spaced (config .n) ++ (spaced (config .t) ++ (spaced (config .policy) ++ choicesText config)))) ∷ l) (lines-all 1 made fault space)

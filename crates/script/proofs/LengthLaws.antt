@@ -8,7 +8,7 @@ use lib.ListN.{length, take, getD, length-append, length-take}
 use lib.Dec.{ltb, eqb}
 use borrow.Author.Tests.{le-leb, eqb-true, eqb-false}
 use borrow.Table.Steps.{cases}
-use Rattle.script.specs.Texts.{configLine, unreadLine, heldLine}
+use Rattle.script.specs.Texts.{choicesText, configLine, unreadLine, heldLine}
 use Rattle.calls.specs.declared.effect.Effect.{Effect}
 use Rattle.calls.specs.declared.turn.Applied.{Applied}
 use Rattle.calls.specs.Effects.{appends, rdpEffect, inpEffect, casEffect, effect}
@@ -152,10 +152,14 @@ module _ (space : Space) (call : Call) where
 
 -- ---- lines
 
-pub config-most : (config : Config) → config .n < 100 → config .t < 100 → config .policy < 100 → length (configLine config) ≤ 15
+choices-most : (config : Config) → config .k < 100 → length (choicesText config) ≤ 3
+unfolding choicesText
+choices-most config k = cases (eqb (config .policy) 3) (λ e. rw e (omega (arith, spaced-most 1 (config .k) k))) (λ e. rw e (omega arith))
+
+pub config-most : (config : Config) → config .n < 100 → config .t < 100 → config .policy < 100 → config .k < 100 → length (configLine config) ≤ 18
 unfolding configLine
-config-most config n t policy =
-    simp length-append (omega (arith, spaced-most 1 (config .n) n, spaced-most 1 (config .t) t, spaced-most 1 (config .policy) policy))
+config-most config n t policy k =
+    simp length-append (omega (arith, spaced-most 1 (config .n) n, spaced-most 1 (config .t) t, spaced-most 1 (config .policy) policy, choices-most config k))
 
 pub line-most : {s : List ℕ} {at next : ℕ} {call : Call} (number : ℕ) (space : Space) → Read s at next call → number ≤ largest
     → at + length (replyLine number (applied space call .reply)) ≤ at + 16 * (next - at)

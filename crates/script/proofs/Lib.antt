@@ -5,4 +5,5 @@ mod RecordLaws
 pub mod RoomLaws
 pub mod RunLaws
 mod ScriptLaws
+pub mod SetUpLaws
 pub mod StepLaws

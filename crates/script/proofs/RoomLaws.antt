@@ -28,7 +28,7 @@ use Rattle.space.specs.declared.space.Opening.the-variants.{Stands, Unopened}
 use Rattle.space.specs.declared.space.Space.{Space}
 use Rattle.space.specs.Configs.{sound}
 use Rattle.space.specs.Spaces.{freshOf}
-use Rattle.space.proofs.ConfigLaws.{sound-rule}
+use Rattle.space.proofs.ConfigLaws.{sound-range, sound-choices}
 use Rattle.text.specs.Texts.{replyLine}
 use Rattle.text.proofs.LengthLaws.{refused-most}
 use Rattle.tuple.specs.Refusals.{refusal}
@@ -86,12 +86,13 @@ opened-most config s at bytes short = by-opening (freshOf config .opening) refl
     by-opening : (o : Opening) → freshOf config .opening ≡ o → length (opened config s at) ≤ 16 * length s + 64
     by-opening Stands e =
         let good = fresh-sound config e in
-        let parts = sound-rule config .0 good in
+        let parts = sound-range config good in
+        let k = sound-choices config good in
         omega (
           arith,
           ap length (opened-stands config s at good),
           length-append (configLine config) (linesOn 1 (freshOf config .space) (recordsAt s at)),
-          config-most config (omega arith) (omega arith) (omega arith),
+          config-most config (omega arith) (omega arith) (omega arith) (omega arith),
           lines-few s bytes config good (length s) at 1 (freshOf config .space) (fresh-run config good) (omega arith) (omega arith),
         )
     by-opening (Unopened why) e = omega (arith, ap length (opened-refused config s at why e), refused-most why)

@@ -1,14 +1,15 @@
 -- The laws of scripts and their texts, as claims over the definitions.
 use mathlib.Core.Path.{_≡_}
-use mathlib.Core.Bool.{true}
+use mathlib.Core.Bool.{true, cond}
 use mathlib.Core.List.{List, [], _∷_, _++_}
 use Prim.Native.Nat.{ℕ, _+_, _*_, _≤_, _<_}
 use lib.ListN.{length, drop}
+use lib.Dec.{eqb}
 use Rattle.script.specs.declared.run.Printed.the-variants.{Length}
 use Rattle.script.specs.declared.steps.Stepped.{Stepped}
 use Rattle.script.specs.Lines.{numbered, unread}
 use Rattle.script.specs.Printing.{text, textBytes, printedOf}
-use Rattle.script.specs.Scripts.{Records, Opened, Stops, configOf, ended, prepend, recordsAt, recordsBytes, ran}
+use Rattle.script.specs.Scripts.{Records, Opened, Stops, noConfig, configOf, setUpBytes, ended, prepend, recordsAt, recordsBytes, ran}
 use Rattle.script.specs.Steps.{stepAt}
 use Rattle.script.specs.Texts.{boardText, tuplesText}
 use Rattle.calls.specs.Effects.{refuses}
@@ -26,7 +27,9 @@ use Rattle.tuple.specs.declared.fault.Fault.{Fault}
 use Rattle.tuple.specs.declared.fault.Fault.the-variants.{Present}
 use Rattle.tuple.specs.declared.field.Call.{Call}
 use Rattle.tuple.specs.declared.refusal.Refusal.{Refusal}
-use Rattle.varint.specs.Reading.{Bytes}
+use Rattle.tuple.specs.Refusals.{refusal}
+use Rattle.varint.specs.Reading.{Bytes, largest}
+use Rattle.varint.specs.Writing.{bytesOf}
 
 -- ---- how long a text is
 
@@ -37,6 +40,31 @@ TextMost = (s : List ℕ) → Bytes s → length (text s) ≤ 16 * length s + 64
 -- so a buffer of that many bytes for the longest script has room for every text: there 10 never comes
 abbrev pub AlwaysRoom : Type 0
 AlwaysRoom = (s : List ℕ) (room : ℕ) → Bytes s → textBytes ≤ room → printedOf s room ≡ Length (length (text s))
+
+-- ---- the set-up
+
+-- the numbers of a set-up, each of which can be written
+pub record Written (config : Config) : Type 0 where
+  pub n : config .n ≤ largest
+  pub t : config .t ≤ largest
+  pub policy : config .policy ≤ largest
+  pub k : config .k ≤ largest
+  pub only : (config .policy ≡ 3 → ⊥) → config .k ≡ 0
+
+-- n, t and the policy number are read at the start of a script, and k behind them under policy 3 only
+abbrev pub SetUpRead : Type 0
+SetUpRead =
+    (config : Config) (rest : List ℕ)
+    → Written config
+    → configOf (setUpBytes config ++ rest) ≡ record { next = place (length (setUpBytes config)); config = config }
+
+-- before anything of it is judged: a script that ends before k is refused 2, whatever n and t are
+abbrev pub SetUpCut : Type 0
+SetUpCut =
+    (n t : ℕ)
+    → n ≤ largest
+    → t ≤ largest
+    → configOf (bytesOf n ++ bytesOf t ++ bytesOf 3) ≡ noConfig (Refused (refusal 2))
 
 -- ---- one record
 
@@ -91,5 +119,5 @@ LineRule =
     (s : List ℕ) (config : Config) (made : List Turn) (fault : Fault) (space : Space)
     → ran s ≡ Opened config made fault space
     → linesOf (text s)
-    ≡ (boardText ++ (spaced (config .n) ++ (spaced (config .t) ++ spaced (config .policy))))
+    ≡ (boardText ++ (spaced (config .n) ++ (spaced (config .t) ++ (spaced (config .policy) ++ cond (eqb (config .policy) 3) (spaced (config .k)) []))))
     ∷ (numbered 1 made ++ (unread (1 + length made) fault ++ ((tuplesText ++ spaced (length (held space))) ∷ [])))

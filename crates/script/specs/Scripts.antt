@@ -1,10 +1,10 @@
--- Document 01, "A whole script": what a script's bytes do. Reading them depends on no space, so the calls are read first, and then made in turn.
+-- Document 01, "A whole script", and document 02, 2.1: what a script's bytes do. Reading them depends on no space, so the calls are read first, and then made in turn.
 use mathlib.Core.Path.{_≡_}
 use Prim.Native.Nat.{ℕ, zero, suc, _≤_, _<_}
 use mathlib.Core.Bool.{cond}
 use mathlib.Core.List.{List, [], _∷_, _++_}
 use lib.ListN.{length}
-use lib.Dec.{leb, ltb}
+use lib.Dec.{leb, ltb, eqb}
 use Rattle.script.specs.declared.setup.ReadConfig.{ReadConfig}
 use Rattle.calls.specs.Turns.{lastOf, Turn, turnsFrom}
 use Rattle.record.specs.declared.reader.Next.{Next}
@@ -24,26 +24,40 @@ use Rattle.tuple.specs.declared.fault.Fault.the-variants.{Absent, Present}
 use Rattle.tuple.specs.declared.field.Call.{Call}
 use Rattle.tuple.specs.declared.refusal.Refusal.{Refusal}
 use Rattle.tuple.specs.Refusals.{refusal}
+use Rattle.varint.specs.Writing.{bytesOf}
 
 -- the most bytes of a script
 abbrev pub scriptBytes : ℕ
 scriptBytes = 65_536
 
--- ---- the set-up: n, t and the policy number, at the start of the script
+-- ---- the set-up, at the start of the script: n, t and the policy number, and under policy 3 k
 
 -- beside a refusal the configuration is blank
 abbrev pub noConfig : Next → ReadConfig
 noConfig next = record { next = next; config = blankConfig }
 
-abbrev pub policyStep : ℕ → ℕ → ReadNumber → ReadConfig
-policyStep n t policy =
-    onward (policy .next) (λ next. record { next = place next; config = record { n = n; t = t; policy = policy .value } }) noConfig
+-- the configuration with the k that was read
+abbrev pub kStep : Config → ReadNumber → ReadConfig
+kStep config k =
+    onward (k .next) (λ next. record { next = place next; config = record { n = config .n; t = config .t; policy = config .policy; k = k .value } }) noConfig
+
+-- k is read under policy 3 only, and it is 0 under the others
+abbrev pub behindPolicy : List ℕ → Config → ℕ → ReadConfig
+behindPolicy s config next = cond (eqb (config .policy) 3) (kStep config (readNumber s next)) (record { next = place next; config = config })
+
+abbrev pub policyStep : ℕ → ℕ → List ℕ → ReadNumber → ReadConfig
+policyStep n t s policy = onward (policy .next) (behindPolicy s (record { n = n; t = t; policy = policy .value; k = 0 })) noConfig
 
 abbrev pub tStep : ℕ → List ℕ → ReadNumber → ReadConfig
-tStep n s t = onward (t .next) (λ next. policyStep n (t .value) (readNumber s next)) noConfig
+tStep n s t = onward (t .next) (λ next. policyStep n (t .value) s (readNumber s next)) noConfig
 
 unfoldable pub configOf : List ℕ → ReadConfig
 configOf s = let n = readNumber s 0 in onward (n .next) (λ next. tStep (n .value) s (readNumber s next)) noConfig
+
+-- the bytes of a set-up
+unfoldable pub setUpBytes : Config → List ℕ
+setUpBytes config =
+    bytesOf (config .n) ++ bytesOf (config .t) ++ bytesOf (config .policy) ++ cond (eqb (config .policy) 3) (bytesOf (config .k)) []
 
 -- ---- the records, to the end of the script
 

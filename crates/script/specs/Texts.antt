@@ -1,7 +1,9 @@
--- Document 01, "A whole script": the lines of a script's text that speak of more than a reply.
+-- Document 01, "A whole script", and document 02, 2.1: the lines of a script's text that speak of more than a reply.
 use Prim.Native.Nat.{ℕ}
+use mathlib.Core.Bool.{cond}
 use mathlib.Core.List.{List, [], _∷_, _++_}
 use lib.ListN.{length}
+use lib.Dec.{eqb}
 use Rattle.space.specs.declared.config.Config.{Config}
 use Rattle.space.specs.declared.space.Space.{Space}
 use Rattle.space.specs.Spaces.{held}
@@ -17,9 +19,13 @@ boardText = 98 ∷ 111 ∷ 97 ∷ 114 ∷ 100 ∷ []
 abbrev pub tuplesText : List ℕ
 tuplesText = 116 ∷ 117 ∷ 112 ∷ 108 ∷ 101 ∷ 115 ∷ []
 
+-- under policy 3 the line ends with k
+unfoldable pub choicesText : Config → List ℕ
+choicesText config = cond (eqb (config .policy) 3) (spaced (config .k)) []
+
 -- board, n, t and the policy
 unfoldable pub configLine : Config → List ℕ
-configLine config = boardText ++ spaced (config .n) ++ spaced (config .t) ++ spaced (config .policy) ++ feed
+configLine config = boardText ++ spaced (config .n) ++ spaced (config .t) ++ spaced (config .policy) ++ choicesText config ++ feed
 
 -- refused and the number, behind the number of a record that can't be read
 unfoldable pub unreadLine : ℕ → Refusal → List ℕ

@@ -4,7 +4,7 @@ ghost use mathlib.Core.Bool.{true};
 ghost use lib.ListN.{length};
 ghost use lib.Seq.{sets};
 ghost use Rattle.script.specs.Printing.{unreadOf};
-ghost use Rattle.script.specs.Texts.{configLine, heldLine};
+ghost use Rattle.script.specs.Texts.{choicesText, configLine, heldLine};
 ghost use Rattle.space.specs.Spaces.{wellFormed};
 ghost use Rattle.text.specs.Places.{behind};
 use record::Next;
@@ -15,7 +15,7 @@ use text::put_number;
 use text::put_refused;
 use text::put_spaced;
 
-// Board, n, t and the policy.
+// Board, n, t and the policy, and under policy 3 k.
 pub(crate) fn put_config(out: &mut [u8], at: usize, config: Config) -> usize
     ensures { λ r. ⌜ r ≡ behind at (length (configLine config)) ⌝ }
     ensures { λ _. ⌜ now (out .exit) ≡ sets (now (out .entry)) at (configLine config) ⌝ }
@@ -24,7 +24,20 @@ pub(crate) fn put_config(out: &mut [u8], at: usize, config: Config) -> usize
     let n = put_spaced(out, word, config.n);
     let t = put_spaced(out, n, config.t);
     let policy = put_spaced(out, t, config.policy);
-    put(out, policy, b"\n")
+    let choices = put_choices(out, policy, config);
+    put(out, choices, b"\n")
+}
+
+// Under policy 3 how many choices there are.
+fn put_choices(out: &mut [u8], at: usize, config: Config) -> usize
+    ensures { λ r. ⌜ r ≡ behind at (length (choicesText config)) ⌝ }
+    ensures { λ _. ⌜ now (out .exit) ≡ sets (now (out .entry)) at (choicesText config) ⌝ }
+{
+    if config.policy == 3 {
+        put_spaced(out, at, config.k)
+    } else {
+        at
+    }
 }
 
 // The number of a record that can't be read and the refusal in place of its end.

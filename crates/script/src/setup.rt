@@ -1,6 +1,7 @@
-// The set-up of a script: n, t and the policy number, at its start.
+// The set-up of a script, at its start: n, t and the policy number, and under policy 3 k.
 ghost use mathlib.Core.Path.{_≡_};
-ghost use Rattle.script.specs.Scripts.{noConfig, configOf};
+ghost use Rattle.script.specs.Scripts.{noConfig, kStep, configOf};
+ghost use Rattle.record.specs.Reading.{readNumber};
 use record::Cursor;
 use record::Next;
 use space::Config;
@@ -26,15 +27,40 @@ pub(crate) fn read_config(script: &[u8]) -> ReadConfig
     };
     let policy = third.number(script);
     let behind_policy = policy.next;
-    let Next::At(end) = behind_policy else {
+    let Next::At(fourth) = behind_policy else {
         return no_config(behind_policy);
+    };
+    let config = Config {
+        n: n.value,
+        t: t.value,
+        policy: policy.value,
+        k: 0,
+    };
+    if config.policy == 3 {
+        return read_k(script, fourth, config);
+    }
+    ReadConfig {
+        next: Next::At(fourth),
+        config,
+    }
+}
+
+// The configuration with the k that stands at a position.
+fn read_k(script: &[u8], at: Cursor, config: Config) -> ReadConfig
+    ensures { λ r. ⌜ r ≡ kStep config (readNumber (now (script .entry)) (at .at)) ⌝ }
+{
+    let k = at.number(script);
+    let behind_k = k.next;
+    let Next::At(end) = behind_k else {
+        return no_config(behind_k);
     };
     ReadConfig {
         next: Next::At(end),
         config: Config {
-            n: n.value,
-            t: t.value,
-            policy: policy.value,
+            n: config.n,
+            t: config.t,
+            policy: config.policy,
+            k: k.value,
         },
     }
 }

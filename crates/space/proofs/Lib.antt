@@ -1,3 +1,4 @@
+pub mod CodeLaws
 pub mod ConfigLaws
 pub mod FormedLaws
 pub mod Lengths

@@ -3,25 +3,27 @@ use mathlib.Core.Path.{_≡_, refl, sym, ap, _∙_}
 use mathlib.Core.Logic.{_↔_, inl, inr}
 use mathlib.Core.Bool.{true, false, false≢true, not, or-true, or-false, and-false, and-eq-true-iff}
 use mathlib.Core.List.{List, [], _∷_, List·Memᴰ, List·Memᴰ·head, List·Memᴰ·tail, List·Memᴰ·not-nil, List·Memᴰ·cases-cons}
-use Prim.Native.Nat.{ℕ, _≤_, _<_}
+use Prim.Native.Nat.{ℕ, _+_, _*_, _/_, _%_, _≤_, _<_}
 use native.Mathlib.Omega.{arith}
 use lib.Count.{ones}
 use lib.Dec.{ltb, eqb}
+use lib.IntN.{pos, negsuc}
 use borrow.Author.Tests.{ltb-true, ltb-false, leb-true, eqb-true, eqb-false, lt-ltb, le-leb, eq-eqb, ne-eqb}
 use borrow.Table.Steps.{cases}
 use Rattle.space.specs.declared.config.Config.{Config}
 use Rattle.space.specs.declared.proposal.Sought.{Sought}
 use Rattle.space.specs.declared.proposal.Sought.the-variants.{One, Some, Any}
-use Rattle.space.specs.Laws.{OfferedRule, DecidableRule, ProposedRules, CrowdedRule}
+use Rattle.space.specs.Laws.{OfferedRule, ChoiceRule, OfferedAlone, DecidableRule, ProposedRules, CrowdedRule}
 use Rattle.space.specs.Members.{Member, within}
 use Rattle.space.specs.Proposals.{offered, decidable, isSought, proposes, proposed, backers, crowdedBy, crowded, Placed, Proposed}
 use Rattle.space.specs.Shapes.{isProposal, roundOf, processOf, proposedCode}
+use Rattle.space.proofs.CodeLaws.{is-choice-rule, offered-some, offered-small, plain-offered, offered-choice, choice-offered}
 use Rattle.space.proofs.MemberLaws.{counted-rule}
 use Rattle.space.proofs.ShapeLaws.{four}
 use Rattle.space.proofs.TallyLaws.{tally-rule, same-set}
 use Rattle.tuple.specs.declared.field.Tuple.{Tuple}
 use Rattle.tuple.specs.declared.offset.Offset.{Offset}
-use Rattle.tuple.specs.declared.offset.Offset.the-variants.{Bottom}
+use Rattle.tuple.specs.declared.offset.Offset.the-variants.{Bottom, Hundredths}
 use Rattle.tuple.specs.Bounds.{largestCode}
 use Rattle.tuple.specs.Offsets.{bottom, codeOf, offsetOf}
 use Rattle.tuple.proofs.OffsetLaws.{one-to-one}
@@ -32,23 +34,35 @@ use Rattle.tuple.proofs.OffsetLaws.{one-to-one}
 bottom-code : (o : Offset) → codeOf o ≡ bottom → o ≡ Bottom
 bottom-code o e = sym (one-to-one .back o) ∙ ap offsetOf e
 
-bottom-withheld : (config : Config) → offered config bottom ≡ false
-unfolding offered
-bottom-withheld config = refl
-
 pub offered-rule : OfferedRule
-unfolding offered
-offered-rule config o = (
-  λ h. let parts = and-eq-true-iff (not (eqb (codeOf o) bottom)) _ .0 h in
-      let range = one-to-one .decoded (codeOf o) (leb-true _ _ (parts .1)) in
-      (rw (one-to-one .back o) at range, λ e. false≢true (sym (bottom-withheld config) ∙ ap (λ (o : Offset). offered config (codeOf o)) (sym e) ∙ h)),
-  λ h. rw (ne-eqb (codeOf o) bottom (λ e. h .1 (bottom-code o e))) (le-leb (codeOf o) largestCode (one-to-one .coded o (h .0))),
+offered-rule config o other = (
+  λ h. let range = one-to-one .decoded (codeOf o) (offered-small config (codeOf o) h) in
+      (rw (one-to-one .back o) at range, λ e. offered-some config (codeOf o) h (ap codeOf e)),
+  λ h. plain-offered config (codeOf o) other (λ e. h .1 (bottom-code o e)) (one-to-one .coded o (h .0)),
 )
+
+-- an odd code is that of a whole number, which is half of it
+whole : (k : ℕ) (o : Offset) → codeOf o % 2 ≡ 1 → codeOf o / 2 < k → (z : ℕ) × (z < k) × (o ≡ Hundredths (pos z))
+whole k Bottom odd few = absurd (omega arith)
+whole k (Hundredths (pos z)) odd few = (z, omega arith, refl)
+whole k (Hundredths (negsuc j)) odd few = absurd (omega arith)
+
+pub choice-rule : ChoiceRule
+choice-rule config o three few = (
+  λ h. let choice = is-choice-rule (config .k) (codeOf o) .0 (offered-choice config (codeOf o) three h) in whole (config .k) o (choice .0) (choice .1),
+  λ p. let z = p .0 in
+      ap (λ (o : Offset). offered config (codeOf o)) (p .2)
+      ∙ choice-offered config (1 + 2 * z) (omega (arith, p .1)) (is-choice-rule (config .k) (1 + 2 * z) .1 (omega arith, omega (arith, p .1))),
+)
+
+pub offered-alone : OfferedAlone
+unfolding decidable
+offered-alone config code other = rw (ne-eqb (config .policy) 2 other, or-false)
 
 pub decidable-rule : DecidableRule
 unfolding decidable
 decidable-rule config o two =
-    let rule = offered-rule config o in
+    let rule = offered-rule config o (λ three. omega arith) in
     rw (eq-eqb (config .policy) 2 two) (
       λ h. cases (eqb (codeOf o) bottom)
           (λ e. rw (bottom-code o (eqb-true _ _ e)))

@@ -1,4 +1,4 @@
--- Documents 00 and 01: the bounds of configurations, each under its name.
+-- Documents 00, 01 and 02: the bounds of configurations, each under its name.
 use Prim.Native.Nat.{ℕ}
 
 -- the most processes
@@ -11,4 +11,11 @@ rounds = 8
 
 -- the last policy
 abbrev pub lastPolicy : ℕ
-lastPolicy = 2
+lastPolicy = 3
+
+-- the fewest and the most choices under policy 3
+abbrev pub fewestChoices : ℕ
+fewestChoices = 2
+
+abbrev pub mostChoices : ℕ
+mostChoices = 8

@@ -1,13 +1,26 @@
--- Document 01, "What is returned, and for what", row 1: when a configuration (01's set-up) is sound, and which processes it has.
-use Prim.Native.Nat.{ℕ, _-_, _/_}
-use mathlib.Core.Bool.{Bool, _&&_}
-use lib.Dec.{leb}
+-- Document 01, "What is returned, and for what", row 1, and document 02, 2.1: when a configuration (01's set-up) is sound, and which processes
+-- it has.
+use Prim.Native.Nat.{ℕ, _+_, _*_}
+use mathlib.Core.Bool.{Bool, cond, _&&_, _||_}
+use lib.Dec.{leb, eqb}
 use Rattle.space.specs.declared.config.Config.{Config}
-use Rattle.space.specs.Bounds.{processes, lastPolicy}
+use Rattle.space.specs.Bounds.{processes, lastPolicy, fewestChoices, mostChoices}
 
--- n is 1 to 15, n is at least 3t + 1, and the policy at most 2. 3t + 1 ≤ n is said as t ≤ (n - 1) / 3, which no t wraps
+-- under policy 3: k is 2 to 8, and n at least (k + 1)t + 1
+unfoldable pub choiceSound : Config → Bool
+choiceSound config = leb fewestChoices (config .k) && leb (config .k) mostChoices && leb ((config .k + 1) * config .t + 1) (config .n)
+
+-- under the others, up to the last: k is 0, and n at least 3t + 1
+unfoldable pub plainSound : Config → Bool
+plainSound config = leb (config .policy) lastPolicy && eqb (config .k) 0 && leb (3 * config .t + 1) (config .n)
+
+-- n is 1 to 15
 unfoldable pub sound : Config → Bool
-sound config = leb 1 (config .n) && leb (config .n) processes && leb (config .t) ((config .n - 1) / 3) && leb (config .policy) lastPolicy
+sound config = leb 1 (config .n) && leb (config .n) processes && cond (eqb (config .policy) 3) (choiceSound config) (plainSound config)
+
+-- policies 2 and 3: decisions rest on proposals
+unfoldable pub hasProposals : Config → Bool
+hasProposals config = eqb (config .policy) 2 || eqb (config .policy) 3
 
 -- one of the processes 1 to n
 unfoldable pub known : Config → ℕ → Bool
@@ -15,4 +28,4 @@ known config process = leb 1 process && leb process (config .n)
 
 -- the configuration that stands beside a refusal
 abbrev pub blankConfig : Config
-blankConfig = record { n = 0; t = 0; policy = 0 }
+blankConfig = record { n = 0; t = 0; policy = 0; k = 0 }

@@ -1,21 +1,22 @@
--- The laws of configurations, sets, proposals and spaces, as claims over the definitions, in document 01's words.
+-- The laws of configurations, sets, proposals and spaces, as claims over the definitions, in the words of documents 01 and 02.
 use mathlib.Core.Path.{_≡_}
-use mathlib.Core.Logic.{_↔_}
+use mathlib.Core.Logic.{_↔_, _⊎_}
 use mathlib.Core.Bool.{Bool, true, false}
 use mathlib.Core.List.{List}
 use Prim.Native.Nat.{ℕ, _+_, _*_, _≤_, _<_}
 use lib.Count.{ones}
+use lib.IntN.{pos}
 use lib.ListN.{getD}
 use Rattle.space.specs.declared.config.Config.{Config}
 use Rattle.space.specs.declared.proposal.Sought.the-variants.{One, Some, Any}
 use Rattle.space.specs.declared.space.Space.{Space}
-use Rattle.space.specs.Configs.{sound}
+use Rattle.space.specs.Configs.{sound, hasProposals}
 use Rattle.space.specs.Members.{Member, within, every, counted}
 use Rattle.space.specs.Proposals.{offered, decidable, proposed, backers, crowded, Placed, Proposed}
 use Rattle.space.specs.Spaces.{wellFormed, Typed, Tidy}
 use Rattle.tuple.specs.declared.field.Tuple.{Tuple}
 use Rattle.tuple.specs.declared.offset.Offset.{Offset}
-use Rattle.tuple.specs.declared.offset.Offset.the-variants.{Bottom}
+use Rattle.tuple.specs.declared.offset.Offset.the-variants.{Bottom, Hundredths}
 use Rattle.tuple.specs.Bounds.{capacity}
 use Rattle.tuple.specs.Faults.{isEntry}
 use Rattle.tuple.specs.Fields.{blankTuple}
@@ -23,10 +24,20 @@ use Rattle.tuple.specs.Offsets.{inRange, codeOf}
 
 -- ---- configurations
 
--- n is 1 to 15, n is at least 3t + 1, and the policy at most 2
+-- n is 1 to 15, and the policy at most 3. Policy 3 has a k, 2 to 8, and needs n at least (k + 1)t + 1; under the others k is 0, and n at
+-- least 3t + 1
+pub record Sound (config : Config) : Type 0 where
+  pub some : 1 ≤ config .n
+  pub few : config .n ≤ 15
+  pub policy : config .policy ≤ 3
+  pub choice : config .policy ≡ 3 → (2 ≤ config .k) × (config .k ≤ 8) × ((config .k + 1) * config .t + 1 ≤ config .n)
+  pub others : (config .policy ≡ 3 → ⊥) → (config .k ≡ 0) × (3 * config .t + 1 ≤ config .n)
+
 abbrev pub SoundRule : Type 0
-SoundRule =
-    (config : Config) → (sound config ≡ true) ↔ ((1 ≤ config .n) × (config .n ≤ 15) × (3 * config .t + 1 ≤ config .n) × (config .policy ≤ 2))
+SoundRule = (config : Config) → (sound config ≡ true) ↔ Sound config
+
+abbrev pub ProposalsRule : Type 0
+ProposalsRule = (config : Config) → (hasProposals config ≡ true) ↔ ((config .policy ≡ 2) ⊎ (config .policy ≡ 3))
 
 -- ---- sets
 
@@ -47,13 +58,28 @@ TallyRule =
 
 -- ---- proposals
 
--- every offset in range may be proposed but bottom
+-- every offset in range may be proposed but bottom, unless the policy is 3
 abbrev pub OfferedRule : Type 0
-OfferedRule = (config : Config) (offset : Offset) → (offered config (codeOf offset) ≡ true) ↔ ((inRange offset ≡ true) × (offset ≡ Bottom → ⊥))
+OfferedRule =
+    (config : Config) (offset : Offset)
+    → (config .policy ≡ 3 → ⊥)
+    → (offered config (codeOf offset) ≡ true) ↔ ((inRange offset ≡ true) × (offset ≡ Bottom → ⊥))
+
+-- under policy 3 exactly the whole numbers 0 to k - 1
+abbrev pub ChoiceRule : Type 0
+ChoiceRule =
+    (config : Config) (offset : Offset)
+    → config .policy ≡ 3
+    → config .k ≤ 8
+    → (offered config (codeOf offset) ≡ true) ↔ ((z : ℕ) × (z < config .k) × (offset ≡ Hundredths (pos z)))
 
 -- under policy 2 every offset in range may be decided, and bottom is one of them
 abbrev pub DecidableRule : Type 0
 DecidableRule = (config : Config) (offset : Offset) → config .policy ≡ 2 → (decidable config (codeOf offset) ≡ true) ↔ (inRange offset ≡ true)
+
+-- under the others only what may be proposed, so that bottom is none of them
+abbrev pub OfferedAlone : Type 0
+OfferedAlone = (config : Config) (code : ℕ) → (config .policy ≡ 2 → ⊥) → decidable config code ≡ offered config code
 
 -- a process has proposed an offset exactly when such a tuple stands
 pub record ProposedRule (config : Config) (tuples : List Tuple) (round process : ℕ) : Type 0 where

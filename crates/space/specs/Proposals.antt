@@ -1,6 +1,6 @@
--- Document 01, "Policies": what may be proposed and decided, and what is proposed in a round.
+-- Document 01, "Policies", and document 02, 2.1: what may be proposed and decided, and what is proposed in a round.
 use mathlib.Core.Path.{_≡_}
-use Prim.Native.Nat.{ℕ}
+use Prim.Native.Nat.{ℕ, _/_, _%_}
 use mathlib.Core.Bool.{Bool, true, false, not, _&&_, _||_}
 use mathlib.Core.List.{List, [], _∷_, List·Memᴰ}
 use lib.Dec.{leb, ltb, eqb}
@@ -15,9 +15,13 @@ use Rattle.tuple.specs.Offsets.{bottom}
 
 -- ---- what may be proposed and decided, by its code
 
--- every offset but bottom
+-- the offsets 0 to k - 1, which have the codes 1, 3, .. 2k - 1
+unfoldable pub isChoice : ℕ → ℕ → Bool
+isChoice k code = eqb (code % 2) 1 && ltb (code / 2) k
+
+-- every offset but bottom; under policy 3 only a choice
 unfoldable pub offered : Config → ℕ → Bool
-offered config code = not (eqb code bottom) && leb code largestCode
+offered config code = not (eqb code bottom) && leb code largestCode && (not (eqb (config .policy) 3) || isChoice (config .k) code)
 
 -- what a process may decide: what may be proposed, and under policy 2 bottom
 unfoldable pub decidable : Config → ℕ → Bool

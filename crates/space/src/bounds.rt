@@ -1,6 +1,10 @@
-// The bounds of configurations: the most processes, the number of rounds, and the last policy.
+// The bounds of configurations: the most processes, the number of rounds, the last policy, and how many choices policy 3 may have.
 pub const PROCESSES: usize = 15;
 
 pub const ROUNDS: u64 = 8;
 
-pub const LAST_POLICY: u64 = 2;
+pub const LAST_POLICY: u64 = 3;
+
+pub const FEWEST_CHOICES: u64 = 2;
+
+pub const MOST_CHOICES: u64 = 8;

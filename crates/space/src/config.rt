@@ -1,7 +1,12 @@
-// The configuration of a space (01's set-up): how many processes, how many of them may be faulty, and the policy.
+// The configuration of a space (01's set-up): how many processes, how many of them may be faulty, the policy, and under policy 3 how many
+// offsets may be chosen among.
 ghost use mathlib.Core.Path.{_≡_};
-ghost use Rattle.space.specs.Configs.{sound, known, blankConfig};
+ghost use Prim.Native.Nat.{_+_, _*_, _≤_};
+ghost use lib.Dec.{leb};
+ghost use Rattle.space.specs.Configs.{sound, choiceSound, plainSound, hasProposals, known, blankConfig};
+use crate::bounds::FEWEST_CHOICES;
 use crate::bounds::LAST_POLICY;
+use crate::bounds::MOST_CHOICES;
 use crate::bounds::PROCESSES;
 
 #[repr(C)]
@@ -9,6 +14,7 @@ pub struct Config {
     pub n: u64,
     pub t: u64,
     pub policy: u64,
+    pub k: u64,
 }
 
 impl Config {
@@ -20,10 +26,11 @@ impl Config {
             n: 0,
             t: 0,
             policy: 0,
+            k: 0,
         }
     }
 
-    // Whether n is 1 to 15, n is at least 3t + 1, and the policy at most 2.
+    // Whether n is 1 to 15, the policy at most 3, and n and k are what the policy needs.
     pub fn is_sound(self) -> bool
         ensures { λ r. ⌜ r ≡ sound self ⌝ }
     {
@@ -34,10 +41,22 @@ impl Config {
         if (PROCESSES as u64) < n {
             return false;
         }
-        if (n - 1) / 3 < self.t {
-            return false;
+        if self.policy == 3 {
+            choice_sound(self)
+        } else {
+            plain_sound(self)
         }
-        self.policy <= LAST_POLICY
+    }
+
+    // Whether decisions rest on proposals: policies 2 and 3.
+    pub fn has_proposals(self) -> bool
+        ensures { λ r. ⌜ r ≡ hasProposals self ⌝ }
+    {
+        if self.policy == 2 {
+            true
+        } else {
+            self.policy == 3
+        }
     }
 
     // Whether this is one of the processes 1 to n.
@@ -50,4 +69,42 @@ impl Config {
             false
         }
     }
+}
+
+// Under policy 3: whether k is 2 to 8, and n at least (k + 1)t + 1.
+fn choice_sound(config: Config) -> bool
+    requires { ⌜ 1 ≤ config .n ⌝ }
+    ensures { λ r. ⌜ r ≡ choiceSound config ⌝ }
+{
+    let k = config.k;
+    if k < FEWEST_CHOICES {
+        return false;
+    }
+    if MOST_CHOICES < k {
+        return false;
+    }
+    is_enough(config.n, config.t, k + 1)
+}
+
+// Under the others, up to the last: whether k is 0, and n at least 3t + 1.
+fn plain_sound(config: Config) -> bool
+    requires { ⌜ 1 ≤ config .n ⌝ }
+    ensures { λ r. ⌜ r ≡ plainSound config ⌝ }
+{
+    if LAST_POLICY < config.policy {
+        return false;
+    }
+    if config.k != 0 {
+        return false;
+    }
+    is_enough(config.n, config.t, 3)
+}
+
+// Whether n is at least share × t + 1, tested by a division, which no t wraps.
+fn is_enough(n: u64, t: u64, share: u64) -> bool
+    requires { ⌜ 1 ≤ n ⌝ }
+    requires { ⌜ 1 ≤ share ⌝ }
+    ensures { λ r. ⌜ r ≡ leb (share * t + 1) n ⌝ }
+{
+    t <= (n - 1) / share
 }

@@ -4,7 +4,7 @@ ghost use mathlib.Core.Bool.{cond, _&&_};
 ghost use lib.Dec.{eqb};
 ghost use Rattle.space.specs.declared.proposal.Sought.the-variants.{Any};
 ghost use Rattle.space.specs.Members.{strike as strike·};
-ghost use Rattle.space.specs.Proposals.{offered as offered·, decidable as decidable·, isSought, proposes as proposes·, proposed, everyProposed, crowded as crowded·};
+ghost use Rattle.space.specs.Proposals.{isChoice, offered as offered·, decidable as decidable·, isSought, proposes as proposes·, proposed, everyProposed, crowded as crowded·};
 ghost use Rattle.space.specs.Shapes.{isProposal, roundOf, processOf};
 ghost use Rattle.space.specs.Spaces.{held};
 use crate::config::Config;
@@ -34,10 +34,23 @@ pub fn offered(config: Config, code: u64) -> bool
     ensures { λ r. ⌜ r ≡ offered· config code ⌝ }
 {
     if code == BOTTOM {
-        false
-    } else {
-        code <= LARGEST_CODE
+        return false;
     }
+    if LARGEST_CODE < code {
+        return false;
+    }
+    if config.policy == 3 {
+        is_choice(config.k, code)
+    } else {
+        true
+    }
+}
+
+// Whether a code is that of one of the offsets 0 to k - 1.
+fn is_choice(k: u64, code: u64) -> bool
+    ensures { λ r. ⌜ r ≡ isChoice k code ⌝ }
+{
+    if code % 2 == 1 { code / 2 < k } else { false }
 }
 
 // Whether the offset of a code may be decided.

@@ -19,7 +19,7 @@ use reference::records::{read_record, record_of};
 use reference::{flat, script, sys};
 use reference::{Answer, Board, Call, Config, Field, Kind, Offset, Seat, Step, Tuple};
 
-const FULL: Config = Config { n: MOST_SEATS, t: (MOST_SEATS - 1) / 3, policy: 2 };
+const FULL: Config = Config { n: MOST_SEATS, t: (MOST_SEATS - 1) / 3, policy: 2, k: 0 };
 
 /// The medians of both sides, measured in turn.
 fn medians(rounds: usize, mut ours: impl FnMut(), mut plain: impl FnMut()) -> (Duration, Duration) {

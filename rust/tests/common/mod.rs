@@ -4,6 +4,7 @@
 #![allow(dead_code)]
 
 use reference::fields::{MOST_FIELDS, MOST_SEATS};
+use reference::policy::STRONG;
 use reference::records::{read_record, record_of, write_record};
 use reference::script::run_into;
 use reference::{flat, sys};
@@ -84,17 +85,66 @@ pub const COUNTS: [usize; 9] = [0, 1, 2, 3, 4, 5, 6, 7, usize::MAX];
 pub const CODES: [u8; 7] = [0, 1, 2, 3, 4, 5, 255];
 pub const SEATS: [u32; 9] = [0, 1, 2, 4, 5, MOST_SEATS as u32, MOST_SEATS as u32 + 1, 127, u32::MAX];
 
-pub fn config(dice: &mut Dice) -> Config {
-    let n = 1 + dice.below(MOST_SEATS);
-    Config { n, t: dice.below((n - 1) / 3 + 1), policy: dice.below(3) }
+/// Every policy, and numbers that are none's.
+pub const POLICIES: [u64; 6] = [0, 1, 2, 3, 4, u64::MAX];
+
+/// How many choices: all of policy 3, and beyond its bounds.
+pub const CHOICES: [u64; 12] = [0, 1, 2, 3, 4, 5, 6, 7, 8, 9, 4_294_967_295, u64::MAX];
+
+/// How many may stray: few, and so many that 3t, 4t or 9t just fits in 64 bits, or wraps.
+pub const STRAYS: [u64; 13] = {
+    let parts = [u64::MAX / 3, u64::MAX / 4, u64::MAX / 9];
+    [0, 1, 2, 3, 4, 5, parts[0], parts[0] + 1, parts[1], parts[1] + 1, parts[2], parts[2] + 1, u64::MAX]
+};
+
+/// A sound set-up of so many seats under a policy; mostly few choices, so that some may stray.
+pub fn config_of(dice: &mut Dice, n: u64, policy: u64) -> Config {
+    let k = if policy == STRONG { dice.pick(&[2, 2, 2, 2, 3, 3, 3, 4, 4, 5, 6, 7, 8]) } else { 0 };
+    let most = (n - 1) / if policy == STRONG { k + 1 } else { 3 };
+    Config { n, t: if dice.one_in(3) { dice.below(most + 1) } else { most }, policy, k }
 }
 
 /// A set-up at or beyond its bounds.
 pub fn odd_config(dice: &mut Dice) -> Config {
-    let third = u64::MAX / 3;
-    let n = dice.pick(&[0, 1, 3, 4, 6, 7, MOST_SEATS, MOST_SEATS + 1, u64::MAX]);
-    let t = dice.pick(&[0, 1, 2, 4, 5, third, third + 1, u64::MAX]);
-    Config { n, t, policy: dice.pick(&[0, 1, 2, 3, u64::MAX]) }
+    let n = dice.pick(&[0, 1, 3, 4, 5, 6, 7, 9, 10, MOST_SEATS, MOST_SEATS + 1, u64::MAX]);
+    let policy = dice.pick(&[0, 1, 2, 3, 3, 4, u64::MAX]);
+    let k = if policy == STRONG || dice.one_in(3) { dice.pick(&CHOICES) } else { 0 };
+    Config { n, t: dice.pick(&STRAYS), policy, k }
+}
+
+/// Every n, t, policy and k at and around its bounds, with every other: among them n one too small for k and t.
+pub fn every_config() -> Vec<Config> {
+    let mut configs = Vec::new();
+    for n in (0..=MOST_SEATS + 2).chain([u64::MAX]) {
+        for t in STRAYS {
+            for policy in POLICIES {
+                configs.extend(CHOICES.map(|k| Config { n, t, policy, k }));
+            }
+        }
+    }
+    configs
+}
+
+/// An offset that may be proposed; one of a few, so that they meet.
+pub fn likely_offset(dice: &mut Dice, config: &Config) -> u64 {
+    match config.policy {
+        STRONG => 1 + 2 * dice.pick(&[0, 1, config.k.clamp(2, 8) - 1]),
+        _ => 1 + dice.below(3),
+    }
+}
+
+/// The mark, or an offset that is no choice among k: -1, -k, k, or far off.
+pub fn no_choice(dice: &mut Dice, k: u64) -> u64 {
+    dice.pick(&[0, 0, 0, 2, 2, 2 * k, 1 + 2 * k, 1 + 2 * k, 200_000, 200_001])
+}
+
+/// An offset or the mark, mostly one that may be proposed.
+pub fn near_offset(dice: &mut Dice, config: &Config) -> u64 {
+    if dice.one_in(3) {
+        no_choice(dice, config.k.min(8))
+    } else {
+        likely_offset(dice, config)
+    }
 }
 
 /// A field that an entry, or a template, may have.

@@ -5,15 +5,15 @@ use native.Mathlib.Omega.{arith}
 use mathlib.Core.Bool.{not}
 use borrow.Author.Tests.{le-leb, lt-leb, not-true, not-false}
 use Rattle.policy.specs.Default.{bearsBottom}
-use Rattle.space.proofs.ConfigLaws.{sound-rule}
+use Rattle.space.proofs.ConfigLaws.{sound-range}
 use Rattle.policy.proofs.default.bears_bottom.Statement.{statement}
 use Rattle.policy.proofs.default.bears_bottom.Tie as tie
 
 sub-if1 : tie.Need-sub-if1
-sub-if1 c = let range = sound-rule (c .args .space .config) .0 (c .pre) in omega (arith, range .2)
+sub-if1 c = let range = sound-range (c .args .space .config) (c .pre) in omega (arith, range .2)
 
 cast-if1 : tie.Need-cast-if1
-cast-if1 c = let range = sound-rule (c .args .space .config) .0 (c .pre) in record { fits = omega (arith, range .1, range .2) }
+cast-if1 c = let range = sound-range (c .args .space .config) (c .pre) in record { fits = omega (arith, range .1, range .2) }
 
 returns : tie.Need-returns
 unfolding bearsBottom

@@ -17,21 +17,35 @@ returns-2 : tie.Need-returns-2
 unfolding verdictOn
 returns-2 c = c .weak .ensures ∙ sym (rw (ne-eqb _ 0 (c .before .before .if1 .left), eq-eqb _ 1 (c .before .if2 .taken)))
 
-default-requires : tie.Need-default-requires
-default-requires c κs = search needs
+has-proposals-requires : tie.Need-has-proposals-requires
+has-proposals-requires c κs = search needs
+
+justified-requires : tie.Need-justified-requires
+justified-requires c κs = search needs
 
 returns-3 : tie.Need-returns-3
 unfolding verdictOn
 returns-3 c =
-    let p = c .before .before in
-    c .default .ensures ∙ sym (rw (ne-eqb _ 0 (p .before .if1 .left), ne-eqb _ 1 (p .if2 .left), eq-eqb _ 2 (c .before .if3 .taken)))
+    let h = c .before .before in
+    let p = h .before in
+    c .justified .ensures
+    ∙ sym (rw (ne-eqb _ 0 (p .before .if1 .left), ne-eqb _ 1 (p .if2 .left), sym (h .has-proposals .ensures) ∙ c .before .if3 .taken))
 
 returns-4 : tie.Need-returns-4
 unfolding verdictOn
 returns-4 c =
-    let p = c .before in
-    rw (ne-eqb _ 0 (p .before .if1 .left), ne-eqb _ 1 (p .if2 .left), ne-eqb _ 2 (c .if3 .left))
+    let h = c .before in
+    let p = h .before in
+    rw (ne-eqb _ 0 (p .before .if1 .left), ne-eqb _ 1 (p .if2 .left), sym (h .has-proposals .ensures) ∙ c .if3 .left)
 
 pub verdict-on-spec : {M : Type 1} → statement M
 verdict-on-spec =
-    tie.close (tie.spec returns weak-requires returns-2 default-requires returns-3 returns-4)
+    tie.close
+    (tie.spec
+    returns
+    weak-requires
+    returns-2
+    has-proposals-requires
+    justified-requires
+    returns-3
+    returns-4)

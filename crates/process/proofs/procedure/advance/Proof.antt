@@ -6,7 +6,7 @@ use native.Mathlib.Omega.{arith}
 use mathlib.Core.List.{List}
 use Rattle.process.specs.Procedure.{decides, readOn, valueOf, advanced}
 use Rattle.process.specs.Tallies.{backed}
-use Rattle.process.proofs.StateSteps.{sound-range, formed-sound, formed-asked, formed-code, formed-value}
+use Rattle.process.proofs.StateSteps.{sound-few, formed-sound, formed-asked, formed-code, formed-value}
 use Rattle.process.proofs.procedure.advance.Statement.{statement}
 use Rattle.process.proofs.procedure.advance.Tie as tie
 
@@ -23,7 +23,7 @@ noted-requires : tie.Need-noted-requires
 noted-requires c κs =
     let s = c .before .before .before .before in
     let asked = formed-asked (s .args .process) (s .pre .0) _ (c .before .phase .given .1) in
-    let few = sound-range (s .args .process .config) (formed-sound (s .args .process) (s .pre .0)) in
+    let few = sound-few (s .args .process .config) (formed-sound (s .args .process) (s .pre .0)) in
     (asked .0, omega arith)
 
 read-on-requires : tie.Need-read-on-requires

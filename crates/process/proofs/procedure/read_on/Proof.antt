@@ -2,12 +2,12 @@
 use borrow.Author.Needs.{needs}
 use mathlib.Core.Path.{_≡_, sym, _∙_}
 use Rattle.process.specs.Tallies.{backed}
-use Rattle.process.proofs.StateSteps.{sound-range}
+use Rattle.process.proofs.StateSteps.{sound-few}
 use Rattle.process.proofs.procedure.read_on.Statement.{statement}
 use Rattle.process.proofs.procedure.read_on.Tie as tie
 
 settled-requires : tie.Need-settled-requires
-settled-requires c κs = sound-range (c .before .args .process .config) (c .before .pre .0) .1
+settled-requires c κs = sound-few (c .before .args .process .config) (c .before .pre .0) .1
 
 backed-requires : tie.Need-backed-requires
 backed-requires c κs = search needs
@@ -16,7 +16,7 @@ casts-requires : tie.Need-casts-requires
 casts-requires c κs = search needs
 
 next-after-requires : tie.Need-next-after-requires
-next-after-requires c κs = let s = c .before .before .before in (sound-range (s .args .process .config) (s .pre .0) .0, s .pre .1)
+next-after-requires c κs = let s = c .before .before .before in (sound-few (s .args .process .config) (s .pre .0) .0, s .pre .1)
 
 reads-requires : tie.Need-reads-requires
 reads-requires c κs = search needs

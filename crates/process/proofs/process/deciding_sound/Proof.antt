@@ -4,7 +4,7 @@ use mathlib.Core.Path.{_≡_, sym, _∙_}
 use mathlib.Core.Bool.{true}
 use borrow.Author.Tests.{not-true, not-false}
 use Rattle.process.specs.States.{foundSound, decidingSound}
-use Rattle.process.proofs.StateSteps.{sound-range}
+use Rattle.process.proofs.StateSteps.{sound-few}
 use Rattle.process.proofs.process.deciding_sound.Statement.{statement}
 use Rattle.process.proofs.process.deciding_sound.Tie as tie
 
@@ -20,7 +20,7 @@ codes : (c : tie.Else1) → let a = c .before .before .args in foundSound (a .co
 codes c = sym (c .before .found-sound .ensures) ∙ not-false _ (c .if1 .left)
 
 settled-requires : tie.Need-settled-requires
-settled-requires c κs = let s = c .before .before in sound-range (s .args .config) (s .pre) .1
+settled-requires c κs = let s = c .before .before in sound-few (s .args .config) (s .pre) .1
 
 returns-2 : tie.Need-returns-2
 unfolding decidingSound

@@ -5,7 +5,7 @@ use Prim.Native.Nat.{_≤_}
 use native.Mathlib.Omega.{arith}
 use borrow.Author.Tests.{not-true, not-false}
 use Rattle.process.specs.States.{lastEnds}
-use Rattle.process.proofs.StateSteps.{sound-range, last-here, last-more, last-none}
+use Rattle.process.proofs.StateSteps.{sound-few, last-here, last-more, last-none}
 use Rattle.space.specs.Bounds.{processes}
 use Rattle.process.proofs.process.last_ends.Statement.{statement}
 use Rattle.process.proofs.process.last_ends.Tie as tie
@@ -21,7 +21,7 @@ loop-holds c = (omega arith, refl)
 
 -- there is a place for each of the processes
 range : (c : tie.In-loop Inv-loop μ-loop) → let config = c .before .before .args .config in (config .n ≤ processes) × (config .t ≤ config .n)
-range c = sound-range (c .before .before .args .config) (c .before .before .pre)
+range c = sound-few (c .before .before .args .config) (c .before .before .pre)
 
 sub-k : tie.Need-sub-k Inv-loop μ-loop
 sub-k c = search needs

@@ -7,7 +7,7 @@ use native.Mathlib.Omega.{arith}
 use borrow.Author.Tests.{eq-eqb, ne-eqb, not-true, not-false}
 use Rattle.process.specs.States.{foundSound, readingSound}
 use Rattle.process.proofs.StateLaws.{known-rule}
-use Rattle.process.proofs.StateSteps.{sound-range}
+use Rattle.process.proofs.StateSteps.{sound-few}
 use Rattle.space.specs.Bounds.{processes}
 use Rattle.space.specs.Configs.{known}
 use Rattle.process.proofs.process.reading_sound.Statement.{statement}
@@ -32,7 +32,7 @@ place : (c : tie.Else2) → let a = c .before .before .before .before .args in (
 place c =
     let s = c .before .before .before .before in
     let asked = known-rule (s .args .config) (s .args .asked) .0 (member c) in
-    let few = sound-range (s .args .config) (s .pre) in
+    let few = sound-few (s .args .config) (s .pre) in
     (asked .0, omega arith)
 
 knows-requires : tie.Need-knows-requires
@@ -56,7 +56,7 @@ unfolding readingSound
 returns-3 c = let m = c .before in rw (codes (m .before .before), member m, ne-eqb _ 0 (c .if3 .taken))
 
 settled-requires : tie.Need-settled-requires
-settled-requires c κs = let s = c .before .before .before .before .before in sound-range (s .args .config) (s .pre) .1
+settled-requires c κs = let s = c .before .before .before .before .before in sound-few (s .args .config) (s .pre) .1
 
 returns-4 : tie.Need-returns-4
 unfolding readingSound

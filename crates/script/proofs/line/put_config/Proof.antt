@@ -1,7 +1,7 @@
--- `script::line::put_config` meets its contract: the word, the three numbers and the line feed, one behind the other.
+-- `script::line::put_config` meets its contract: the word, the numbers and the line feed, one behind the other.
 use borrow.Author.Needs.{needs}
 use mathlib.Core.List.{_++_}
-use Rattle.script.specs.Texts.{boardText, configLine}
+use Rattle.script.specs.Texts.{boardText, choicesText, configLine}
 use Rattle.text.specs.Texts.{feed, spaced}
 use Rattle.text.proofs.PlaceLaws.{wrote-then}
 use Rattle.script.proofs.line.put_config.Statement.{statement}
@@ -22,6 +22,9 @@ put-spaced-requires-2 c κs = search needs
 put-spaced-requires-3 : tie.Need-put-spaced-requires-3
 put-spaced-requires-3 c κs = search needs
 
+put-choices-requires : tie.Need-put-choices-requires
+put-choices-requires c κs = search needs
+
 slice-aggregate-put-2 : tie.Need-slice-aggregate-put-2
 slice-aggregate-put-2 c = search needs
 
@@ -35,7 +38,8 @@ returns : tie.Need-returns
 unfolding configLine
 returns c =
     let f = c .before .before in
-    let q = f .before .before .before .before .before in
+    let k = f .before .before .before .before .before in
+    let q = k .before .before .before .before in
     let t = q .before .before .before .before in
     let n = t .before .before .before .before in
     let p = n .before .before .before .before in
@@ -46,10 +50,13 @@ returns c =
     let config = s .args .config in
     let to-n = boardText ++ spaced (config .n) in
     let to-t = to-n ++ spaced (config .t) in
-    wrote-then out at small (to-t ++ spaced (config .policy)) feed
+    let to-policy = to-t ++ spaced (config .policy) in
+    wrote-then out at small (to-policy ++ choicesText config) feed
+    (wrote-then out at small to-policy (choicesText config)
     (wrote-then out at small to-t (spaced (config .policy))
     (wrote-then out at small to-n (spaced (config .t)) (wrote-then out at small boardText (spaced (config .n)) (p .put .ensures) (n .put-spaced .ensures)) (t .put-spaced2 .ensures))
     (q .put-spaced3 .ensures))
+    (k .put-choices .ensures))
     (f .put2 .ensures)
 
 pub put-config-spec : {M : Type 1} → statement M
@@ -61,6 +68,7 @@ put-config-spec =
     put-spaced-requires
     put-spaced-requires-2
     put-spaced-requires-3
+    put-choices-requires
     slice-aggregate-put-2
     put-requires-2
     same-length

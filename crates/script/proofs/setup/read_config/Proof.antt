@@ -1,12 +1,13 @@
--- `script::setup::read_config` meets its contract: n, t and the policy number, one behind the other.
+-- `script::setup::read_config` meets its contract: n, t and the policy number, one behind the other, and under policy 3 k.
 use borrow.Author.Needs.{needs}
 use mathlib.Core.Path.{_≡_, sym, _∙_}
 use Prim.Native.Nat.{ℕ}
 use mathlib.Core.List.{List}
+use borrow.Author.Tests.{eq-eqb, ne-eqb}
 use Rattle.script.specs.declared.setup.ReadConfig.{ReadConfig}
-use Rattle.script.specs.Scripts.{noConfig, policyStep, tStep, configOf}
+use Rattle.script.specs.Scripts.{noConfig, behindPolicy, policyStep, tStep, configOf}
 use Rattle.record.specs.declared.reader.ReadNumber.{ReadNumber}
-use Rattle.record.specs.Reading.{place, readNumber}
+use Rattle.record.specs.Reading.{readNumber}
 use Rattle.record.proofs.Steps.{goes-on, stops}
 use Rattle.script.proofs.setup.read_config.Statement.{statement}
 use Rattle.script.proofs.setup.read_config.Tie as tie
@@ -16,10 +17,10 @@ abbrev after-n : List ℕ → ReadNumber → ℕ → ReadConfig
 after-n s read next = tStep (read .value) s (readNumber s next)
 
 abbrev after-t : List ℕ → ℕ → ReadNumber → ℕ → ReadConfig
-after-t s n read next = policyStep n (read .value) (readNumber s next)
+after-t s n read next = policyStep n (read .value) s (readNumber s next)
 
-abbrev after-policy : ℕ → ℕ → ReadNumber → ℕ → ReadConfig
-after-policy n t read next = record { next = place next; config = record { n = n; t = t; policy = read .value } }
+abbrev after-policy : List ℕ → ℕ → ℕ → ReadNumber → ℕ → ReadConfig
+after-policy s n t read = behindPolicy s (record { n = n; t = t; policy = read .value; k = 0 })
 
 -- past n, and past t
 past-n : (c : tie.After-known-told) → let n = c .before .before .before in let s = n .before .before .args .script .now in
@@ -31,7 +32,7 @@ past-n c =
     goes-on (λ (r : ReadNumber). r .next) (after-n s) noConfig (n .number .result) _ (n .number .ensures) _ (c .before .behind-n .given .1)
 
 past-t : (c : tie.After-known-told2) → let t = c .before .before .before in let n = t .before .before .before .before in let s = n .before .before .args .script .now in
-    configOf s ≡ policyStep (n .number .result .value) (t .number2 .result .value) (readNumber s (c .before .behind-t .given .0 .0 .at))
+    configOf s ≡ policyStep (n .number .result .value) (t .number2 .result .value) s (readNumber s (c .before .behind-t .given .0 .0 .at))
 past-t c =
     let t = c .before .before .before in
     let n = t .before .before .before .before in
@@ -98,21 +99,34 @@ returns-3 c =
     let p = c .before .before .before in
     let t = p .before .before .before .before in
     let n = t .before .before .before .before in
+    let s = n .before .before .args .script .now in
     c .no-config3 .ensures
     ∙ sym
     (past-t (p .before)
-    ∙ stops (λ (r : ReadNumber). r .next) (after-policy (n .number .result .value) (t .number2 .result .value)) noConfig (p .number3 .result) _ (p .number3 .ensures) _
+    ∙ stops (λ (r : ReadNumber). r .next) (after-policy s (n .number .result .value) (t .number2 .result .value)) noConfig (p .number3 .result) _ (p .number3 .ensures) _
     (c .before .enum-told3 .given .1))
 
-returns-4 : tie.Need-returns-4
-returns-4 c =
+read-k-requires : tie.Need-read-k-requires
+read-k-requires c κs = search needs
+
+-- past the policy number
+past-policy : (c : tie.After-known-told3) → let p = c .before .before .before in let t = p .before .before .before .before in let n = t .before .before .before .before in
+    let s = n .before .before .args .script .now in
+    configOf s ≡ after-policy s (n .number .result .value) (t .number2 .result .value) (p .number3 .result) (c .before .behind-policy .given .0 .0 .at)
+past-policy c =
     let p = c .before .before .before in
     let t = p .before .before .before .before in
     let n = t .before .before .before .before in
-    sym
-    (past-t (p .before)
-    ∙ goes-on (λ (r : ReadNumber). r .next) (after-policy (n .number .result .value) (t .number2 .result .value)) noConfig (p .number3 .result) _ (p .number3 .ensures) _
-    (c .before .behind-policy .given .1))
+    let s = n .before .before .args .script .now in
+    past-t (p .before)
+    ∙ goes-on (λ (r : ReadNumber). r .next) (after-policy s (n .number .result .value) (t .number2 .result .value)) noConfig (p .number3 .result) _ (p .number3 .ensures) _
+    (c .before .behind-policy .given .1)
+
+returns-4 : tie.Need-returns-4
+returns-4 c = c .read-k .ensures ∙ sym (past-policy (c .before .before .before) ∙ rw (eq-eqb _ _ (c .before .if1 .taken)))
+
+returns-5 : tie.Need-returns-5
+returns-5 c = sym (past-policy (c .before .before) ∙ rw (ne-eqb _ _ (c .if1 .left)))
 
 pub read-config-spec : {M : Type 1} → statement M
 read-config-spec =
@@ -133,4 +147,6 @@ read-config-spec =
     enum-told-3
     no-config-requires-3
     returns-3
-    returns-4)
+    read-k-requires
+    returns-4
+    returns-5)

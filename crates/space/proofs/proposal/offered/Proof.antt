@@ -1,5 +1,7 @@
 -- `space::offered` meets its contract: its tests are the definition's.
-use borrow.Author.Tests.{eq-eqb, ne-eqb}
+use borrow.Author.Needs.{needs}
+use mathlib.Core.Path.{sym, _∙_}
+use borrow.Author.Tests.{eq-eqb, ne-eqb, le-leb, lt-leb}
 use Rattle.space.specs.Proposals.{offered}
 use Rattle.space.proofs.proposal.offered.Statement.{statement}
 use Rattle.space.proofs.proposal.offered.Tie as tie
@@ -10,7 +12,22 @@ returns c = rw (eq-eqb _ _ (c .if1 .taken))
 
 returns-2 : tie.Need-returns-2
 unfolding offered
-returns-2 c = rw (ne-eqb _ _ (c .if1 .left))
+returns-2 c = rw (ne-eqb _ _ (c .before .if1 .left), lt-leb _ _ (c .if2 .taken))
+
+is-choice-requires : tie.Need-is-choice-requires
+is-choice-requires c κs = search needs
+
+returns-3 : tie.Need-returns-3
+unfolding offered
+returns-3 c =
+    let p = c .before .before .before in
+    c .is-choice .ensures ∙ sym (rw (ne-eqb _ _ (p .before .if1 .left), le-leb _ _ (p .if2 .left), eq-eqb _ 3 (c .before .if3 .taken)))
+
+returns-4 : tie.Need-returns-4
+unfolding offered
+returns-4 c =
+    let p = c .before .before in
+    rw (ne-eqb _ _ (p .before .if1 .left), le-leb _ _ (p .if2 .left), ne-eqb _ 3 (c .if3 .left))
 
 pub offered-spec : {M : Type 1} → statement M
-offered-spec = tie.close (tie.spec returns returns-2)
+offered-spec = tie.close (tie.spec returns returns-2 is-choice-requires returns-3 returns-4)

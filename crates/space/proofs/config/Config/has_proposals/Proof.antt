@@ -1,0 +1,16 @@
+-- `space::Config::has_proposals` meets its contract: its tests are the definition's.
+use borrow.Author.Tests.{eq-eqb, ne-eqb}
+use Rattle.space.specs.Configs.{hasProposals}
+use Rattle.space.proofs.config.Config.has_proposals.Statement.{statement}
+use Rattle.space.proofs.config.Config.has_proposals.Tie as tie
+
+returns : tie.Need-returns
+unfolding hasProposals
+returns c = rw (eq-eqb _ 2 (c .if1 .taken))
+
+returns-2 : tie.Need-returns-2
+unfolding hasProposals
+returns-2 c = rw (ne-eqb _ 2 (c .before .if1 .left))
+
+pub has-proposals-spec : {M : Type 1} → statement M
+has-proposals-spec = tie.close (tie.spec returns returns-2)

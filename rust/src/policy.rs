@@ -1,4 +1,4 @@
-//! The four policies (01, "Policies", and 02, 2.1). The board handed to
+//! The four policies (01, "Policies", and 02, 2.1 and 2.2). The board handed to
 //! `permits` is well formed and the call is sound and of a seat from 1 to n.
 
 use crate::board::Board;
@@ -11,7 +11,7 @@ pub const LAST_ROUND: u64 = 7;
 
 /// Policy 0: all is permitted.
 pub const BARE: u64 = 0;
-/// Policy 1: only cas, with nothing asked of the offset.
+/// Policy 1: only cas, with an offset that is not the mark.
 pub const WEAK: u64 = 1;
 /// Policy 2: an offset that t + 1 seats proposed, or else the mark.
 pub const DEFAULT: u64 = 2;
@@ -33,17 +33,18 @@ pub(crate) fn permits(board: &Board, code: Code, call: &Call) -> bool {
     }
 }
 
-/// Fig. 3: (word 2, count r, open offset) and (word 2, the same r, offset v).
+/// Fig. 3: (word 2, count r, open offset) and (word 2, the same r, offset v),
+/// v not the mark.
 fn weak_cas(template: &Tuple, entry: &Tuple) -> bool {
     let [_, round, offset] = entry.used() else {
         return false;
     };
-    let (Some(round), Some(_)) = (round.value_of(Kind::Count), offset.value_of(Kind::Offset)) else {
+    let (Some(round), Some(offset)) = (round.value_of(Kind::Count), offset.value_of(Kind::Offset)) else {
         return false;
     };
     let word = Field::given(Kind::Word, DECISION);
     let named = Tuple::of(&[word, Field::given(Kind::Count, round), Field::open(Kind::Offset)]);
-    entry.fields[0] == word && *template == named && round <= LAST_ROUND
+    entry.fields[0] == word && *template == named && round <= LAST_ROUND && offset != Offset::MARK
 }
 
 /// Fig. 5, out: an offset that may be proposed, where the calling seat has no
@@ -169,8 +170,10 @@ mod tests {
         };
         let mut board = board(4, 1, 1);
         let mut call = |call: Call| board.call(&call);
-        assert_eq!(call(Call::cas(1, template(7), entry(7, 0))), Ok(Answer::INSERTED));
-        assert_eq!(call(Call::cas(2, template(7), entry(7, 5))), Ok(Answer::held(entry(7, 0))));
+        assert_eq!(call(Call::cas(1, template(7), entry(7, 0))), DENIED);
+        assert_eq!(call(Call::cas(1, template(7), entry(7, 1))), Ok(Answer::INSERTED));
+        assert_eq!(call(Call::cas(2, template(7), entry(7, 5))), Ok(Answer::held(entry(7, 1))));
+        assert_eq!(call(Call::cas(2, template(7), entry(7, 0))), DENIED);
         assert_eq!(call(Call::cas(2, template(0), entry(0, 5))), Ok(Answer::INSERTED));
         assert_eq!(call(Call::cas(1, template(8), entry(8, 1))), DENIED);
         assert_eq!(call(Call::cas(1, template(1), entry(2, 1))), DENIED);

@@ -42,6 +42,7 @@ use Rattle.tuple.specs.declared.reply.Outcome.the-variants as outcome
 use Rattle.tuple.specs.Bounds.{capacity}
 use Rattle.tuple.specs.Fields.{out, cas, blankTuple}
 use Rattle.tuple.specs.Matching.{oldestOf}
+use Rattle.tuple.specs.Offsets.{bottom}
 use Rattle.tuple.proofs.MatchRules.{oldest-rule}
 
 -- ---- what is put
@@ -52,12 +53,14 @@ pub record Proposal (config : Config) (tuple : Tuple) : Type 0 where
   pub some : 1 ≤ processOf tuple
   pub few : processOf tuple ≤ processes
   pub may : offered config (proposedCode tuple) ≡ true
+  pub rests : hasProposals config ≡ true
 
 pub record Decision (config : Config) (tuple : Tuple) : Type 0 where
   pub shape : decides config tuple ≡ true
   pub round : roundOf tuple < rounds
   pub members : hasProposals config ≡ true → within (config .n) (setOf tuple) ≡ true
   pub may : hasProposals config ≡ true → decidable config (decidedCode tuple) ≡ true
+  pub some : config .policy ≡ 1 → decidedCode tuple ≡ bottom → ⊥
 
 pub record Out (config : Config) (tuples : List Tuple) (call : Call) : Type 0 where
   pub code : call .code ≡ out
@@ -108,6 +111,7 @@ module _ (config : Config) (safe : sound config ≡ true) (strict : 1 ≤ config
           some = omega arith;
           few = omega (arith, sound-range config safe);
           may = own .may;
+          rests = rests;
         };
         own = own .own;
         free = own .free;
@@ -122,6 +126,7 @@ module _ (config : Config) (safe : sound config ≡ true) (strict : 1 ≤ config
         round = weak .in-rounds;
         members = λ rests. absurd (omega (arith, proposals-some config rests));
         may = λ rests. absurd (omega (arith, proposals-some config rests));
+        some = λ same. weak .some;
       }))
       (λ rests. let shaped = decision-call config tuples call rests code permitted in
       let other = ne-eqb (config .policy) 1 (λ one. omega (arith, proposals-some config rests)) in
@@ -130,6 +135,7 @@ module _ (config : Config) (safe : sound config ≡ true) (strict : 1 ≤ config
         round = shaped .in-rounds;
         members = λ same. within-rule (config .n) (setOf (call .entry)) .1 (shaped .members);
         may = λ same. shaped .may;
+        some = λ one. absurd (omega (arith, proposals-some config rests));
       }))
     where
       cas-alone : asks config (call .template) ≡ true → roundOf (call .template) ≡ roundOf (call .entry) → Decision config (call .entry) → Cas config tuples call

@@ -10,3 +10,4 @@ pub mod NeverFullLaws
 pub mod RunSteps
 pub mod SumLaws
 pub mod UncheckedLaws
+pub mod WeakLaws

@@ -9,7 +9,7 @@ use Rattle.calls.specs.Counts.{additions, removals}
 use Rattle.calls.specs.Turns.{Turn, applied, turns, uncheckedFrom, last}
 use Rattle.policy.specs.declared.verdicts.Verdict.the-variants.{Permit}
 use Rattle.policy.specs.Policies.{verdictOn}
-use Rattle.policy.specs.Shapes.{isDecision}
+use Rattle.policy.specs.Shapes.{isWeakEntry, isDecision, decidedCode}
 use Rattle.space.specs.declared.config.Config.{Config}
 use Rattle.space.specs.Configs.{sound, hasProposals}
 use Rattle.space.specs.Shapes.{roundOf, isProposal, processOf}
@@ -18,6 +18,7 @@ use Rattle.tuple.specs.declared.field.Tuple.{Tuple}
 use Rattle.tuple.specs.declared.field.Call.{Call}
 use Rattle.tuple.specs.declared.reply.Outcome.the-variants.{Done, Inserted, Refused}
 use Rattle.tuple.specs.Fields.{out, inp, cas, blankTuple}
+use Rattle.tuple.specs.Offsets.{bottom}
 use Rattle.tuple.specs.Refusals.{refusal}
 
 -- without the test of each place, calls from a fresh space make the same turns
@@ -51,6 +52,17 @@ NothingLeaves =
     (config : Config) (before calls : List Call)
     → NoInp config
     → (more : List Tuple) × (held (last config (before ++ calls)) ≡ held (last config before) ++ more)
+
+-- ---- what policy 1 makes of every list of calls
+
+-- each tuple is (word 2, count r, offset v), and v is never bottom: no tuple ever holds it
+abbrev pub WeakOffsets : Type 0
+WeakOffsets =
+    (config : Config) (calls : List Call) (tuple : Tuple)
+    → sound config ≡ true
+    → config .policy ≡ 1
+    → List·Memᴰ tuple (held (last config calls))
+    → (isWeakEntry tuple ≡ true) × (decidedCode tuple ≡ bottom → ⊥)
 
 -- ---- what policies 2 and 3 make of every list of calls
 

@@ -9,9 +9,12 @@ use crate::tuples::any_word;
 use crate::tuples::asking;
 use crate::tuples::pair;
 use crate::tuples::proposal;
+use crate::tuples::weak;
 use crate::tuples::words;
 use space::Space;
 use tuple::CAS;
+use tuple::DEFINED;
+use tuple::FORMAL;
 use tuple::OFFSET;
 use tuple::OUT;
 use tuple::PROCESS_SET;
@@ -93,6 +96,24 @@ pub(crate) fn bottom() {
     let mut without = board;
     without.tuples[2] = proposal(3, 0);
     decide(labels, 5, without, 1, 0, 7);
+}
+
+// A cas of bottom under policy 1: it is denied on a free and on a decided round. On a space handed in that holds a decided bottom, a good cas
+// is held with it.
+pub(crate) fn weak_bottom() {
+    let labels: &[u8] = b"\
+        weak bottom, free\n\
+        weak offset\n\
+        weak bottom, decided\n\
+        weak offset, bottom decided";
+    let asked = weak(FORMAL, 0);
+    let bottom = weak(DEFINED, 0);
+    let offset = weak(DEFINED, 80);
+    let mut board = make(labels, 1, open(4, 1, 1), 1, CAS, asked, bottom);
+    board = make(labels, 2, board, 1, CAS, asked, offset);
+    board = make(labels, 3, board, 2, CAS, asked, bottom);
+    board.tuples[0] = bottom;
+    make(labels, 4, board, 2, CAS, asked, offset);
 }
 
 // A space on which processes 1 and 2 have proposed.

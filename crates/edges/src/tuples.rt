@@ -59,6 +59,22 @@ pub(crate) fn asking() -> Tuple {
     )
 }
 
+// (word 2, count 0, offset), the offset by its code or open
+pub(crate) fn weak(state: u8, code: u64) -> Tuple {
+    let blank = Field::blank();
+    Tuple {
+        count: 3,
+        fields: [
+            field(WORD, DEFINED, DECISION),
+            field(COUNT, DEFINED, 0),
+            field(OFFSET, state, code),
+            blank,
+            blank,
+            blank,
+        ],
+    }
+}
+
 // (word 7, and one field more)
 pub(crate) fn pair(kind: u8, value: u64) -> Tuple {
     let blank = Field::blank();

@@ -7,7 +7,7 @@ use Prim.Native.Nat.{ℕ, _+_, _-_, _≤_, _<_}
 use native.Mathlib.Omega.{arith}
 use lib.Count.{ones}
 use lib.Dec.{leb, eqb}
-use borrow.Author.Tests.{ltb-true, leb-true, eqb-true, not-true, lt-ltb, le-leb, eq-eqb, ne-eqb}
+use borrow.Author.Tests.{ltb-true, leb-true, eqb-true, eqb-false, not-true, lt-ltb, le-leb, eq-eqb, ne-eqb}
 use borrow.Table.Steps.{cases}
 use Rattle.policy.specs.declared.verdicts.Verdict.{Verdict}
 use Rattle.policy.specs.declared.verdicts.Verdict.the-variants.{Permit, Refuse}
@@ -34,6 +34,7 @@ use Rattle.tuple.specs.declared.field.Tuple.{Tuple}
 use Rattle.tuple.specs.declared.field.Call.{Call}
 use Rattle.tuple.specs.declared.refusal.Refusal.{Refusal}
 use Rattle.tuple.specs.Fields.{out, rdp, cas}
+use Rattle.tuple.specs.Offsets.{bottom}
 use Rattle.tuple.specs.Refusals.{refusal}
 
 -- ---- demands
@@ -114,13 +115,16 @@ pub weak-rule : WeakRule
 unfolding weak isWeakCall
 weak-rule config tuples call one =
     let round = same-round (call .template) (call .entry) in
+    let decided = decidedCode (call .entry) in
     rw (under-weak config tuples call one) (
       λ h.
-          let tests = demanded (isWeakCall call) (refusal 7) Permit h .0 in
-          let shapes = four (eqb (call .code) cas) (isWeakTemplate (call .template)) (isWeakEntry (call .entry)) (sameRound (call .template) (call .entry)) tests in
+          let tests = and-eq-true-iff (eqb (call .code) cas && isWeakTemplate (call .template) && isWeakEntry (call .entry) && sameRound (call .template) (call .entry)) _ .0
+          (demanded (isWeakCall call) (refusal 7) Permit h .0) in
+          let some : not (eqb decided bottom) ≡ true = tests .1 in
+          let shapes = four (eqb (call .code) cas) (isWeakTemplate (call .template)) (isWeakEntry (call .entry)) (sameRound (call .template) (call .entry)) (tests .0) in
           let on = round .0 (shapes .3) in
-          record { code = eqb-true _ _ (shapes .0); template = shapes .1; entry = shapes .2; same = on .0; in-rounds = on .1 },
-      λ c. rw (c .code, c .template, c .entry, round .1 (c .same, c .in-rounds)),
+          record { code = eqb-true _ _ (shapes .0); template = shapes .1; entry = shapes .2; same = on .0; in-rounds = on .1; some = eqb-false decided bottom (not-true _ some) },
+      λ c. rw (c .code, c .template, c .entry, round .1 (c .same, c .in-rounds), ne-eqb decided bottom (c .some)),
     )
 
 -- ---- policies 2 and 3: rdp, inp and out

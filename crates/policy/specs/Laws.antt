@@ -43,7 +43,7 @@ UnknownRule = (config : Config) (tuples : List Tuple) (call : Call) → 3 < conf
 abbrev pub BareRule : Type 0
 BareRule = (config : Config) (tuples : List Tuple) (call : Call) → config .policy ≡ 0 → verdictOn config tuples call ≡ Permit
 
--- ---- policy 1: only cas, with the two shapes, on one round 0 to 7
+-- ---- policy 1: only cas, with the two shapes, on one round 0 to 7, and not of bottom
 
 pub record WeakCall (call : Call) : Type 0 where
   pub code : call .code ≡ cas
@@ -51,6 +51,7 @@ pub record WeakCall (call : Call) : Type 0 where
   pub entry : isWeakEntry (call .entry) ≡ true
   pub same : roundOf (call .template) ≡ roundOf (call .entry)
   pub in-rounds : roundOf (call .entry) < rounds
+  pub some : decidedCode (call .entry) ≡ bottom → ⊥
 
 abbrev pub WeakRule : Type 0
 WeakRule = (config : Config) (tuples : List Tuple) (call : Call) → config .policy ≡ 1 → (verdictOn config tuples call ≡ Permit) ↔ WeakCall call

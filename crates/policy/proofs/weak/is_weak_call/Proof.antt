@@ -5,6 +5,9 @@ use Rattle.policy.specs.Weak.{isWeakCall}
 use Rattle.policy.proofs.weak.is_weak_call.Statement.{statement}
 use Rattle.policy.proofs.weak.is_weak_call.Tie as tie
 
+element-copy-out-third : tie.Need-element-copy-out-third
+element-copy-out-third c = search needs
+
 is-weak-template-requires : tie.Need-is-weak-template-requires
 is-weak-template-requires c κs = search needs
 
@@ -14,19 +17,20 @@ is-weak-entry-requires c κs = search needs
 same-round-requires : tie.Need-same-round-requires
 same-round-requires c κs = search needs
 
-all-four-requires : tie.Need-all-four-requires
-all-four-requires c κs = search needs
+all-five-requires : tie.Need-all-five-requires
+all-five-requires c κs = search needs
 
 returns : tie.Need-returns
 unfolding isWeakCall
-returns c = c .all-four .ensures ∙ cc (c .before .before .before .is-weak-template .ensures, c .before .before .is-weak-entry .ensures, c .before .same-round .ensures)
+returns c = c .all-five .ensures ∙ cc (c .before .before .before .before .is-weak-template .ensures, c .before .before .before .is-weak-entry .ensures, c .before .before .same-round .ensures)
 
 pub is-weak-call-spec : {M : Type 1} → statement M
 is-weak-call-spec =
     tie.close
     (tie.spec
+    element-copy-out-third
     is-weak-template-requires
     is-weak-entry-requires
     same-round-requires
-    all-four-requires
+    all-five-requires
     returns)

@@ -151,16 +151,15 @@ impl Board {
     }
 
     /// Obeys a call, or refuses it and leaves the board as it was: 1, then 3
-    /// to 5 in record order with unused parts last, then 6, 7, 8.
+    /// to 5 in record order with unused parts last, then 6, then 7, 12 or 13,
+    /// then 8.
     pub fn call(&mut self, call: &Call) -> Result<Answer, Refusal> {
         self.check()?;
         let code = call.check()?;
         if !self.config.has_seat(call.process.into()) {
             return Err(Refusal::Seat);
         }
-        if !policy::permits(self, code, call) {
-            return Err(Refusal::Denied);
-        }
+        policy::check(self, code, call)?;
         match code {
             Code::Out => self.append(&call.entry).map(|()| Answer::DONE),
             Code::Rdp => Ok(match self.oldest(&call.template) {
@@ -360,6 +359,36 @@ mod tests {
         board.tuples = [number(1); MOST_TUPLES];
         board.config.policy = 1;
         assert_eq!(obey(&mut board, good), Err(Denied), "7 before 8");
+    }
+
+    #[test]
+    fn in_the_place_of_7() {
+        let out = |process, round| Call::out(process, Tuple::proposal(round, 1, 3));
+        let cas =
+            |process, seats| Call::cas(process, Tuple::decision_template(0), Tuple::decision(0, 3, seats));
+        for config in [config(4, 1, 2), strong(4, 1, 2)] {
+            // A full board, on which seats 1 and 2 have proposed.
+            let mut board = Board::fresh(config).unwrap();
+            board.count = MOST_TUPLES;
+            board.tuples = [Tuple::proposal(0, 1, 3); MOST_TUPLES];
+            board.tuples[MOST_TUPLES - 1] = Tuple::proposal(0, 2, 3);
+            assert_eq!(obey(&mut board, out(1, 1)), Err(Full));
+            assert_eq!(obey(&mut board, out(1, 0)), Err(Second), "12 before 8");
+            assert_eq!(obey(&mut board, out(2, 0)), Err(Denied));
+            assert_eq!(obey(&mut board, out(5, 0)), Err(Seat), "6 before 12");
+            assert_eq!(obey(&mut board, cas(1, 0b0011)), Err(Full));
+            assert_eq!(obey(&mut board, cas(1, 0b0001)), Err(Unborne), "13 before 8");
+            assert_eq!(obey(&mut board, cas(1, 0b1_0011)), Err(Denied));
+            assert_eq!(obey(&mut board, cas(0, 0b0001)), Err(Seat), "6 before 13");
+            for mut spoilt in [out(1, 0), cas(1, 0b0001)] {
+                spoilt.entry.fields[5].value = 1;
+                assert_eq!(obey(&mut board, spoilt), Err(Shape), "5 before 12 and 13");
+            }
+            board.config.n = 3;
+            for call in [out(1, 0), cas(1, 0b0001)] {
+                assert_eq!(obey(&mut board, call), Err(Unsound), "1 before 12 and 13");
+            }
+        }
     }
 
     #[test]

@@ -1,5 +1,5 @@
-//! The shared offset board of document 01 with request 2.1 of document 02,
-//! read independently and written plainly: safe Rust, std only. Records and
+//! The shared offset board of document 01 with requests 2.1 to 2.3 of document
+//! 02, read independently and written plainly: safe Rust, std only. Records and
 //! matching lie below the board and policies, which lie below the seat
 //! procedure and the program.
 //!

@@ -1,10 +1,11 @@
-//! The four policies (01, "Policies", and 02, 2.1 and 2.2). The board handed to
-//! `permits` is well formed and the call is sound and of a seat from 1 to n.
+//! The four policies (01, "Policies", and 02, 2.1 to 2.3). The board handed to
+//! `check` is well formed and the call is sound and of a seat from 1 to n.
 
 use crate::board::Board;
 use crate::fields::{Field, Kind, Tuple, DECISION, MOST_SEATS};
 use crate::numbers::Offset;
 use crate::records::{Call, Code};
+use crate::refusal::Refusal;
 
 /// Rounds are 0 to this.
 pub const LAST_ROUND: u64 = 7;
@@ -18,18 +19,16 @@ pub const DEFAULT: u64 = 2;
 /// Policy 3: one of k choices, which t + 1 seats proposed.
 pub const STRONG: u64 = 3;
 
-/// Whether the board's policy permits the call.
-pub(crate) fn permits(board: &Board, code: Code, call: &Call) -> bool {
-    match board.config.policy {
-        BARE => true,
-        WEAK => code == Code::Cas && weak_cas(&call.template, &call.entry),
-        DEFAULT | STRONG => match code {
-            Code::Out => proposing_out(board, call.process.into(), &call.entry),
-            Code::Rdp => true,
-            Code::Inp => false,
-            Code::Cas => deciding_cas(board, &call.template, &call.entry),
-        },
-        _ => false,
+/// Refused 7, or under policies 2 and 3 in its place 12 or 13, unless the
+/// board's policy permits the call.
+pub(crate) fn check(board: &Board, code: Code, call: &Call) -> Result<(), Refusal> {
+    match (board.config.policy, code) {
+        (BARE, _) => Ok(()),
+        (WEAK, Code::Cas) if weak_cas(&call.template, &call.entry) => Ok(()),
+        (DEFAULT | STRONG, Code::Out) => proposing_out(board, call.process.into(), &call.entry),
+        (DEFAULT | STRONG, Code::Rdp) => Ok(()),
+        (DEFAULT | STRONG, Code::Cas) => deciding_cas(board, &call.template, &call.entry),
+        _ => Err(Refusal::Denied),
     }
 }
 
@@ -47,28 +46,41 @@ fn weak_cas(template: &Tuple, entry: &Tuple) -> bool {
     entry.fields[0] == word && *template == named && round <= LAST_ROUND && offset != Offset::MARK
 }
 
-/// Fig. 5, out: an offset that may be proposed, where the calling seat has no
-/// other, whatever it be, in the round.
-fn proposing_out(board: &Board, process: u64, entry: &Tuple) -> bool {
-    let Some((round, seat, offset)) = entry.as_proposal() else {
-        return false;
-    };
+/// Fig. 5, out: an offset that may be proposed, else 7, where the calling seat
+/// has no other, whatever it be, in the round, else 12.
+fn proposing_out(board: &Board, process: u64, entry: &Tuple) -> Result<(), Refusal> {
+    let (round, seat, offset) = entry.as_proposal().ok_or(Refusal::Denied)?;
+    if round > LAST_ROUND || seat != process || !board.config.may_propose(offset) {
+        return Err(Refusal::Denied);
+    }
     let again = board.held().iter().filter_map(Tuple::as_proposal).any(|(r, q, _)| (r, q) == (round, seat));
-    round <= LAST_ROUND && seat == process && board.config.may_propose(offset) && !again
+    if again {
+        return Err(Refusal::Second);
+    }
+    Ok(())
 }
 
-/// Fig. 5, cas: a decision with the seats that bear it out.
-fn deciding_cas(board: &Board, template: &Tuple, entry: &Tuple) -> bool {
-    let Some((round, offset, seats)) = entry.as_decision() else {
-        return false;
-    };
+/// Fig. 5, cas: a decision of what may be decided, with a set in 1 to n, else
+/// 7, that bears it out, else 13.
+fn deciding_cas(board: &Board, template: &Tuple, entry: &Tuple) -> Result<(), Refusal> {
+    let (round, offset, seats) = entry.as_decision().ok_or(Refusal::Denied)?;
     if *template != Tuple::decision_template(round) || round > LAST_ROUND {
-        return false;
+        return Err(Refusal::Denied);
     }
+    if seats >> board.config.n != 0 || !board.config.may_decide(offset) {
+        return Err(Refusal::Denied);
+    }
+    if !bears(board, round, offset, seats) {
+        return Err(Refusal::Unborne);
+    }
+    Ok(())
+}
+
+/// Whether this set of seats bears the offset in the round: at least t + 1
+/// seats that have each proposed it; for the mark at least n - t seats that
+/// have each proposed, and no offset proposed by more than t of them.
+fn bears(board: &Board, round: u64, offset: u64, seats: u64) -> bool {
     let (n, t) = (board.config.n, board.config.t);
-    if seats >> n != 0 || !board.config.may_decide(offset) {
-        return false;
-    }
     let proposals = Proposals::of(board, round);
     let size = u64::from(seats.count_ones());
     if offset == Offset::MARK {
@@ -119,9 +131,10 @@ mod tests {
     use super::*;
     use crate::board::{Answer, Config};
     use crate::fields::PROPOSE;
-    use crate::refusal::Refusal;
 
     const DENIED: Result<Answer, Refusal> = Err(Refusal::Denied);
+    const SECOND: Result<Answer, Refusal> = Err(Refusal::Second);
+    const UNBORNE: Result<Answer, Refusal> = Err(Refusal::Unborne);
 
     fn board(n: u64, t: u64, policy: u64) -> Board {
         Board::fresh(Config { n, t, policy, k: 0 }).unwrap()
@@ -193,6 +206,21 @@ mod tests {
     }
 
     #[test]
+    fn under_policies_0_and_1_nothing_is_second_or_unborne() {
+        let proposals = [Tuple::proposal(0, 1, 9), Tuple::proposal(0, 2, 9)];
+        let answer = |policy, call| filled(board(4, 1, policy), &proposals).call(&call);
+        let second = propose(1, 0, 1, 9);
+        assert_eq!(answer(BARE, second), Ok(Answer::DONE));
+        assert_eq!(answer(WEAK, second), DENIED);
+        for seats in [0, 0b0001, 0b0011, 0b0111, 0b1_0011] {
+            for offset in [0, 7, 9] {
+                assert_eq!(answer(BARE, cas(0, offset, seats)), Ok(Answer::INSERTED));
+                assert_eq!(answer(WEAK, cas(0, offset, seats)), DENIED);
+            }
+        }
+    }
+
+    #[test]
     fn default_reading() {
         let mut board = board(4, 1, 2);
         assert_eq!(board.call(&Call::rdp(1, Tuple::of(&[Field::any(Kind::Seats)]))), Ok(Answer::NONE));
@@ -206,18 +234,48 @@ mod tests {
         assert_eq!(board.call(&propose(1, 7, 2, 3)), DENIED);
         assert_eq!(board.call(&propose(1, 7, 1, 0)), DENIED);
         assert_eq!(board.call(&propose(1, 7, 1, 1)), Ok(Answer::DONE), "0 is not the mark");
-        assert_eq!(board.call(&propose(1, 7, 1, 1)), DENIED);
-        assert_eq!(board.call(&propose(1, 7, 1, 3)), DENIED);
+        for offset in [1, 2, 3, 200_001] {
+            assert_eq!(board.call(&propose(1, 7, 1, offset)), SECOND, "{offset}");
+        }
+        // A second one that could not be the first either is denied for what it is.
+        assert_eq!(board.call(&propose(1, 7, 1, 0)), DENIED);
+        assert_eq!(board.call(&propose(2, 7, 1, 1)), DENIED);
+        assert_eq!(board.call(&propose(2, 7, 1, 0)), DENIED);
         assert_eq!(board.call(&propose(1, 6, 1, 3)), Ok(Answer::DONE));
         assert_eq!(board.call(&propose(2, 7, 2, 3)), Ok(Answer::DONE));
-        let mut longer = Tuple::proposal(5, 1, 3);
-        longer.fields[4] = Field::given(Kind::Word, 0);
-        longer.count = 5;
-        assert_eq!(board.call(&Call::out(1, longer)), DENIED);
-        // A mark on a board handed in stands in the way too.
-        let mut board = with(4, 1, &[Tuple::proposal(0, 1, 0)]);
-        assert_eq!(board.call(&propose(1, 0, 1, 3)), DENIED);
+        assert_eq!(board.call(&propose(1, 7, 2, 3)), DENIED);
+        for round in [5, 7] {
+            let mut longer = Tuple::proposal(round, 1, 3);
+            longer.fields[4] = Field::given(Kind::Word, 0);
+            longer.count = 5;
+            assert_eq!(board.call(&Call::out(1, longer)), DENIED);
+        }
+        let mut worded = Tuple::proposal(7, 1, 1);
+        worded.fields[0].value = DECISION;
+        assert_eq!(board.call(&Call::out(1, worded)), DENIED);
+        // A mark on a board handed in stands in the way too, and there is no round 8.
+        let mut board = with(4, 1, &[Tuple::proposal(0, 1, 0), Tuple::proposal(8, 1, 3)]);
+        assert_eq!(board.call(&propose(1, 0, 1, 3)), SECOND);
+        assert_eq!(board.call(&propose(1, 0, 1, 0)), DENIED);
+        assert_eq!(board.call(&propose(1, 8, 1, 3)), DENIED);
         assert_eq!(board.call(&propose(1, 1, 1, 3)), Ok(Answer::DONE));
+    }
+
+    #[test]
+    fn only_its_own_round_and_seat_stand_in_the_way() {
+        let mut tuples = [Tuple::proposal(0, 1, 3); 6];
+        tuples[0].fields[0].value = DECISION;
+        tuples[1].fields[1].value = 1;
+        tuples[2].fields[2].value = 2;
+        tuples[3].fields[3] = Field::given(Kind::Count, 3);
+        tuples[4].fields[4] = Field::given(Kind::Word, 0);
+        tuples[4].count = 5;
+        tuples[5] = Tuple::of(&tuples[5].fields[..3]);
+        let mut board = with(4, 1, &tuples);
+        assert_eq!(board.call(&propose(1, 0, 1, 3)), Ok(Answer::DONE));
+        assert_eq!(board.call(&propose(1, 0, 1, 3)), SECOND);
+        assert_eq!(board.call(&propose(1, 1, 1, 3)), SECOND);
+        assert_eq!(board.call(&propose(2, 0, 2, 3)), SECOND);
     }
 
     #[test]
@@ -226,30 +284,75 @@ mod tests {
         let fresh = with(4, 1, &proposals);
         let answer = |call: Call| fresh.clone().call(&call);
         assert_eq!(answer(cas(0, 0x50, 0b0101)), Ok(Answer::INSERTED));
-        for seats in [0, 0b0001, 0b0111, 0b0010, 0b1_0101] {
-            assert_eq!(answer(cas(0, 0x50, seats)), DENIED, "{seats}");
+        for seats in [0, 0b0001, 0b0111, 0b0010] {
+            assert_eq!(answer(cas(0, 0x50, seats)), UNBORNE, "{seats}");
+            assert_eq!(answer(cas(8, 0x50, seats)), DENIED, "{seats}");
         }
-        assert_eq!(answer(cas(0, 0x51, 0b0010)), DENIED);
-        assert_eq!(answer(cas(1, 0x50, 0b0101)), DENIED);
+        assert_eq!(answer(cas(0, 0x50, 0b1_0101)), DENIED, "5 is above n");
+        assert_eq!(answer(cas(0, 0x51, 0b0010)), UNBORNE);
+        assert_eq!(answer(cas(1, 0x50, 0b0101)), UNBORNE);
         assert_eq!(answer(cas(8, 0x50, 0b0101)), DENIED);
         // The mark: n - t seats, none of whose offsets has more than t of them.
         assert_eq!(answer(cas(0, 0, 0b1011)), Ok(Answer::INSERTED));
-        for seats in [0b0011, 0b0111, 0b1111, 0b1_1011] {
-            assert_eq!(answer(cas(0, 0, seats)), DENIED, "{seats}");
+        for seats in [0, 0b0011, 0b0111, 0b1111] {
+            assert_eq!(answer(cas(0, 0, seats)), UNBORNE, "{seats}");
+            assert_eq!(answer(cas(8, 0, seats)), DENIED, "{seats}");
         }
-        // The template must be exactly the one named.
-        for place in 0..4 {
-            for state in 0..=2 {
-                let mut call = cas(0, 0x50, 0b0101);
-                if call.template.fields[place].state != state {
-                    call.template.fields[place] = Field { state, value: 0, ..call.template.fields[place] };
-                    assert_eq!(answer(call), DENIED);
+        assert_eq!(answer(cas(0, 0, 0b1_1011)), DENIED, "5 is above n");
+        assert_eq!(answer(cas(1, 0, 0b1011)), UNBORNE);
+        // The template must be exactly the one named, whether the set bears the offset or not.
+        for seats in [0b0101, 0b0001] {
+            for place in 0..4 {
+                for state in 0..=2 {
+                    let mut call = cas(0, 0x50, seats);
+                    if call.template.fields[place].state != state {
+                        call.template.fields[place] =
+                            Field { state, value: 0, ..call.template.fields[place] };
+                        assert_eq!(answer(call), DENIED);
+                    }
                 }
             }
+            for round in [1, 8] {
+                let mut other = cas(0, 0x50, seats);
+                other.template = Tuple::decision_template(round);
+                assert_eq!(answer(other), DENIED);
+            }
         }
-        let mut other = cas(0, 0x50, 0b0101);
-        other.template = Tuple::decision_template(1);
-        assert_eq!(answer(other), DENIED);
+    }
+
+    #[test]
+    fn why_a_set_does_not_bear_its_offset() {
+        // Of seven seats, two of which may stray, the last proposes nothing.
+        let proposals = [9, 9, 9, 7, 7, 5].into_iter().zip(1..).map(|(w, q)| Tuple::proposal(0, q, w));
+        let fresh = with(7, 2, &proposals.collect::<Vec<_>>());
+        let answer = |call: Call| fresh.clone().call(&call);
+        let rows = [
+            (9, 0, "no member"),
+            (9, 0b000_0011, "two members"),
+            (9, 0b000_1111, "4 has proposed 7"),
+            (9, 0b100_0111, "7 has proposed nothing"),
+            (9, 0b111_1111, "4 to 7 have not proposed it"),
+            (7, 0b001_1000, "two members, all that have proposed it"),
+            (7, 0b011_1000, "6 has proposed 5"),
+            (8, 0b000_0111, "nobody has proposed it"),
+            (0, 0, "no member, for the mark"),
+            (0, 0b011_1001, "four members, for the mark"),
+            (0, 0b111_1001, "7 has not proposed"),
+            (0, 0b001_1111, "1 to 3 have proposed 9"),
+            (0, 0b111_1111, "both"),
+        ];
+        for (offset, seats, why) in rows {
+            assert_eq!(answer(cas(0, offset, seats)), UNBORNE, "{why}");
+            // With a member above n, in a round that is none, or in two rounds it is not the set alone.
+            assert_eq!(answer(cas(0, offset, seats | 1 << 7)), DENIED, "{why}");
+            assert_eq!(answer(cas(0, offset, seats | 1 << 14)), DENIED, "{why}");
+            assert_eq!(answer(cas(8, offset, seats)), DENIED, "{why}");
+            let two = Call { template: Tuple::decision_template(1), ..cas(0, offset, seats) };
+            assert_eq!(answer(two), DENIED, "{why}");
+        }
+        for (offset, seats) in [(9, 0b000_0111), (0, 0b011_1011), (0, 0b011_1110)] {
+            assert_eq!(answer(cas(0, offset, seats)), Ok(Answer::INSERTED));
+        }
     }
 
     #[test]
@@ -258,7 +361,9 @@ mod tests {
         let mut board = with(4, 1, &tuples);
         assert_eq!(board.call(&cas(0, 9, 0b0101)), Ok(Answer::INSERTED));
         assert_eq!(board.call(&cas(0, 9, 0b0101)), Ok(Answer::held(Tuple::decision(0, 9, 5))));
-        assert_eq!(board.call(&cas(0, 9, 0b0001)), DENIED);
+        assert_eq!(board.call(&cas(0, 9, 0b0001)), UNBORNE);
+        assert_eq!(board.call(&cas(0, 9, 0b1_0101)), DENIED);
+        assert_eq!(board.call(&propose(1, 0, 1, 9)), SECOND);
     }
 
     #[test]
@@ -266,18 +371,19 @@ mod tests {
         // Seat 1 has two proposals, one of them twice; it counts once for each.
         let mut tuples = vec![Tuple::proposal(0, 1, 9), Tuple::proposal(0, 1, 9), Tuple::proposal(0, 1, 7)];
         let answer = |tuples: &[Tuple], call: Call| with(4, 1, tuples).call(&call);
-        assert_eq!(answer(&tuples, cas(0, 9, 0b0001)), DENIED);
+        assert_eq!(answer(&tuples, cas(0, 9, 0b0001)), UNBORNE);
+        assert_eq!(answer(&tuples, cas(0, 9, 0b0011)), UNBORNE, "2 has proposed nothing");
         tuples.push(Tuple::proposal(0, 2, 9));
         tuples.push(Tuple::proposal(0, 3, 5));
         assert_eq!(answer(&tuples, cas(0, 9, 0b0011)), Ok(Answer::INSERTED));
-        assert_eq!(answer(&tuples, cas(0, 7, 0b0001)), DENIED);
-        assert_eq!(answer(&tuples, cas(0, 0, 0b0111)), DENIED, "1 and 2 have proposed 9");
+        assert_eq!(answer(&tuples, cas(0, 7, 0b0001)), UNBORNE);
+        assert_eq!(answer(&tuples, cas(0, 0, 0b0111)), UNBORNE, "1 and 2 have proposed 9");
         tuples[3] = Tuple::proposal(0, 2, 8);
         assert_eq!(answer(&tuples, cas(0, 0, 0b0111)), Ok(Answer::INSERTED));
         tuples.push(Tuple::proposal(0, 3, 7));
-        assert_eq!(answer(&tuples, cas(0, 0, 0b0111)), DENIED, "1 and 3 have proposed 7");
+        assert_eq!(answer(&tuples, cas(0, 0, 0b0111)), UNBORNE, "1 and 3 have proposed 7");
         tuples.push(Tuple::proposal(0, 4, 0));
-        assert_eq!(answer(&tuples, cas(0, 0, 0b1011)), DENIED, "a mark is no proposal");
+        assert_eq!(answer(&tuples, cas(0, 0, 0b1011)), UNBORNE, "a mark is no proposal");
         // Seats that are none do no harm.
         tuples.push(Tuple::proposal(0, 0, 7));
         tuples.push(Tuple::proposal(0, 4_294_967_295, 7));
@@ -288,9 +394,9 @@ mod tests {
     fn without_strays_the_mark_is_never_decided() {
         for seats in 0..=0b1111 {
             let tuples = [1, 2, 3, 4].map(|q| Tuple::proposal(0, q, q));
-            assert_eq!(with(4, 0, &tuples).call(&cas(0, 0, seats)), DENIED);
-            let alone = seats.count_ones() == 1 && seats == 1;
-            assert_eq!(with(4, 0, &tuples).call(&cas(0, 1, seats)).is_ok(), alone);
+            assert_eq!(with(4, 0, &tuples).call(&cas(0, 0, seats)), UNBORNE);
+            let borne = if seats == 1 { Ok(Answer::INSERTED) } else { UNBORNE };
+            assert_eq!(with(4, 0, &tuples).call(&cas(0, 1, seats)), borne);
         }
     }
 
@@ -313,13 +419,17 @@ mod tests {
         for (seat, offset) in [(1, 1), (2, 3), (3, 5)] {
             assert_eq!(board.call(&propose(seat, 7, seat.into(), offset)), Ok(Answer::DONE), "{offset}");
             for again in 0..8 {
-                assert_eq!(board.call(&propose(seat, 7, seat.into(), again)), DENIED);
+                let expected = if [1, 3, 5].contains(&again) { SECOND } else { DENIED };
+                assert_eq!(board.call(&propose(seat, 7, seat.into(), again)), expected, "{again}");
+                assert_eq!(board.call(&propose(seat + 1, 7, seat.into(), again)), DENIED, "{again}");
             }
         }
         // Whatever stands in its place, no choice included, a proposal is the second.
         for offset in [0, 1, 2, 7, 200_001] {
             let mut board = filled(strong(5, 1, 3), &[Tuple::proposal(0, 1, offset)]);
-            assert_eq!(board.call(&propose(1, 0, 1, 3)), DENIED, "{offset}");
+            assert_eq!(board.call(&propose(1, 0, 1, 3)), SECOND, "{offset}");
+            assert_eq!(board.call(&propose(1, 0, 1, 0)), DENIED, "{offset}");
+            assert_eq!(board.call(&propose(1, 0, 1, 7)), DENIED, "{offset}");
             assert_eq!(board.call(&propose(1, 1, 1, 3)), Ok(Answer::DONE));
         }
     }
@@ -332,19 +442,29 @@ mod tests {
             for offset in 0..9 {
                 let answer = fresh.clone().call(&cas(0, offset, seats));
                 let borne = offset == 1 && seats & !0b10101 == 0 && seats.count_ones() >= 2;
-                assert_eq!(answer, if borne { Ok(Answer::INSERTED) } else { DENIED }, "{offset} {seats}");
+                let expected = match offset {
+                    1 | 3 | 5 if seats >> 5 != 0 => DENIED,
+                    1 | 3 | 5 if borne => Ok(Answer::INSERTED),
+                    1 | 3 | 5 => UNBORNE,
+                    _ => DENIED,
+                };
+                assert_eq!(answer, expected, "{offset} {seats}");
             }
         }
         let answer = |call: Call| fresh.clone().call(&call);
-        assert_eq!(answer(cas(1, 1, 0b00101)), DENIED);
-        assert_eq!(answer(cas(8, 1, 0b00101)), DENIED);
-        let mut other = cas(0, 1, 0b00101);
-        other.template = Tuple::decision_template(1);
-        assert_eq!(answer(other), DENIED);
+        assert_eq!(answer(cas(1, 1, 0b00101)), UNBORNE);
+        for seats in [0b00101, 0b00001] {
+            assert_eq!(answer(cas(8, 1, seats)), DENIED);
+            let mut other = cas(0, 1, seats);
+            other.template = Tuple::decision_template(1);
+            assert_eq!(answer(other), DENIED);
+        }
         let mut board = fresh.clone();
         assert_eq!(board.call(&cas(0, 1, 0b00101)), Ok(Answer::INSERTED));
         assert_eq!(board.call(&cas(0, 1, 0b10100)), Ok(Answer::held(Tuple::decision(0, 1, 5))));
-        assert_eq!(board.call(&cas(0, 5, 0b01000)), DENIED);
+        assert_eq!(board.call(&cas(0, 5, 0b01000)), UNBORNE);
+        assert_eq!(board.call(&cas(0, 0, 0b11111)), DENIED);
+        assert_eq!(board.call(&cas(0, 7, 0b01000)), DENIED);
     }
 
     #[test]
@@ -355,8 +475,12 @@ mod tests {
         for seats in 0..=0b1111u64 {
             for offset in 0..8 {
                 let answer = filled(strong(4, 1, 2), &tuples).call(&cas(0, offset, seats));
-                let borne = offset == 3 && seats.count_ones() >= 2;
-                assert_eq!(answer, if borne { Ok(Answer::INSERTED) } else { DENIED }, "{offset} {seats}");
+                let expected = match offset {
+                    3 if seats.count_ones() >= 2 => Ok(Answer::INSERTED),
+                    1 | 3 => UNBORNE,
+                    _ => DENIED,
+                };
+                assert_eq!(answer, expected, "{offset} {seats}");
             }
         }
         // A seat's two choices count once for each.
@@ -365,6 +489,6 @@ mod tests {
             let answer = filled(strong(4, 1, 2), &tuples).call(&cas(0, offset, seats));
             assert_eq!(answer, Ok(Answer::INSERTED));
         }
-        assert_eq!(filled(strong(4, 1, 2), &tuples[..2]).call(&cas(0, 1, 0b0001)), DENIED);
+        assert_eq!(filled(strong(4, 1, 2), &tuples[..2]).call(&cas(0, 1, 0b0001)), UNBORNE);
     }
 }

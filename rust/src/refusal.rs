@@ -1,8 +1,8 @@
-//! The numbered refusals (01, "What is returned, and for what").
+//! The numbered refusals (01, "What is returned, and for what", and 02, 2.3).
 
 use std::fmt;
 
-/// Why something was refused. The discriminants are the paper's numbers.
+/// Why something was refused. The discriminants are the papers' numbers.
 #[derive(Clone, Copy, Debug, PartialEq, Eq, Hash, PartialOrd, Ord)]
 #[repr(u8)]
 pub enum Refusal {
@@ -18,7 +18,7 @@ pub enum Refusal {
     Shape = 5,
     /// Seat 0 or above n.
     Seat = 6,
-    /// The policy does not permit the call.
+    /// The policy does not permit the call, and neither 12 nor 13 says why.
     Denied = 7,
     /// No place for another tuple.
     Full = 8,
@@ -28,10 +28,14 @@ pub enum Refusal {
     Buffer = 10,
     /// The answer handed to a seat does not fit.
     Unfit = 11,
+    /// In the place of 7: a seat's second proposal in a round.
+    Second = 12,
+    /// In the place of 7: the set of a decision does not bear its offset.
+    Unborne = 13,
 }
 
 impl Refusal {
-    /// The paper's number.
+    /// The papers' number.
     pub const fn number(self) -> u8 {
         self as u8
     }

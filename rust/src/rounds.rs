@@ -264,11 +264,11 @@ mod tests {
 1 rdp w1 c0 c1 o?: found w1 c0 c1 o40
 2 rdp w1 c0 c1 o?: found w1 c0 c1 o40
 3 rdp w1 c0 c1 o?: found w1 c0 c1 o40
-4 out w1 c0 c4 o40: refused 7
+4 out w1 c0 c4 o40: refused 12
 1 rdp w1 c0 c2 o?: found w1 c0 c2 o40
 2 rdp w1 c0 c2 o?: found w1 c0 c2 o40
 3 rdp w1 c0 c2 o?: found w1 c0 c2 o40
-4 cas w2 c0 o? s*, w2 c0 o-40 s9: refused 7
+4 cas w2 c0 o? s*, w2 c0 o-40 s9: refused 13
 1 cas w2 c0 o? s*, w2 c0 o40 s3: inserted
 1 decides c0 o40
 2 cas w2 c0 o? s*, w2 c0 o40 s3: held w2 c0 o40 s3
@@ -297,6 +297,15 @@ mod tests {
         assert_eq!(calls(&run_case(&choices())), 7 * (1 + 5 + 1) + 4);
         // Without the strays' proposals each reads eight seats.
         assert_eq!(calls(&run_case(&seventh())), 7 * (1 + 8 + 1));
+    }
+
+    #[test]
+    fn strays_among_choices_are_told_why() {
+        let text = run_case(&choices());
+        let refused: Vec<&str> = text.lines().filter(|line| line.contains("refused")).collect();
+        let unborne = "1 cas w2 c0 o? s*, w2 c0 o2 s73: refused 13";
+        let mark = "9 cas w2 c0 o? s*, w2 c0 o_ s511: refused 7";
+        assert_eq!(refused, [unborne, mark]);
     }
 
     #[test]

@@ -90,7 +90,7 @@ mod tests {
         02 02 04 04 02 08 00 0E 11
         05 02 01 05";
 
-    const WORKED_TEXT: &str = "board 4 1 2\n1 done\n2 done\n3 done\n4 refused 7\n5 inserted\n\
+    const WORKED_TEXT: &str = "board 4 1 2\n1 done\n2 done\n3 done\n4 refused 13\n5 inserted\n\
         6 found w2 c0 o-40 s5\n7 refused 6\ntuples 4\n";
 
     #[test]
@@ -166,11 +166,13 @@ mod tests {
             02 01 04 04 01 08 00 08 02 0C 03
             03 01 04 04 01 08 00 08 03 0C 05
             03 01 04 04 01 08 00 08 03 0C 03
+            03 01 04 04 01 08 00 08 03 0C 01
             04 04 04 04 02 08 00 0E 11 04 04 02 08 00 0C 00 10 07
+            04 04 04 04 02 08 00 0E 11 04 04 02 08 00 0C 03 10 07
             01 04 04 04 02 08 00 0E 11 04 04 02 08 00 0C 03 10 06
             02 02 04 04 02 08 00 0E 11";
-        let text = "board 4 1 3 2\n1 done\n2 done\n3 refused 7\n4 done\n5 refused 7\n6 inserted\n\
-            7 found w2 c0 o1 s6\ntuples 4\n";
+        let text = "board 4 1 3 2\n1 done\n2 done\n3 refused 7\n4 done\n5 refused 12\n6 refused 7\n\
+            7 refused 13\n8 inserted\n9 found w2 c0 o1 s6\ntuples 4\n";
         assert_eq!(run(&hex(script)), text);
     }
 

@@ -272,7 +272,7 @@ mod tests {
     use super::*;
     use crate::fields::{Field, Kind};
     use std::collections::HashSet;
-    use Refusal::{Denied, Unfit, Unsound, Value};
+    use Refusal::{Denied, Second, Unborne, Unfit, Unsound, Value};
 
     fn config(n: u64, t: u64) -> Config {
         Config { n, t, policy: 2, k: 0 }
@@ -364,7 +364,9 @@ mod tests {
         expect(Some(Answer::INSERTED), Step::Decision { round: 5, offset: 0 });
         // Once decided, any answer brings the decision again.
         expect(Some(Answer::NONE), Step::Decision { round: 5, offset: 0 });
-        expect(Some(Answer::from(Denied)), Step::Decision { round: 5, offset: 0 });
+        for refusal in [Denied, Second, Unborne] {
+            expect(Some(Answer::from(refusal)), Step::Decision { round: 5, offset: 0 });
+        }
         let odd = Tuple { count: 99, ..Tuple::proposal(8, 8, 8) };
         expect(Some(Answer::held(odd)), Step::Decision { round: 5, offset: 0 });
     }
@@ -459,6 +461,8 @@ mod tests {
             AnswerKind::Found,
             AnswerKind::Held,
             AnswerKind::Refused(Denied),
+            AnswerKind::Refused(Second),
+            AnswerKind::Refused(Unborne),
         ];
         for kind in bare {
             for tuple in [Tuple::BLANK, good, decision] {

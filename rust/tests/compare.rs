@@ -3,10 +3,11 @@
 
 mod common;
 
+use common::denials::{Cause, Denials};
 use common::*;
 use reference::board::MOST_TUPLES;
 use reference::fields::MOST_SEATS;
-use reference::policy::{DEFAULT, STRONG};
+use reference::policy::{DEFAULT, LAST_ROUND, STRONG};
 use reference::records::record_of;
 use reference::{flat, sys};
 use reference::{Answer, AnswerKind, Board, Call, Config, Field, Kind, Offset, Phase, Refusal, Seat, Tuple};
@@ -120,11 +121,13 @@ fn base_calls() -> Vec<Call> {
     vec![
         Call::out(1, Tuple::proposal(1, 1, 0x50)),
         Call::out(1, Tuple::proposal(1, 1, 3)),
+        Call::out(1, Tuple::proposal(0, 1, 3)),
         Call::out(2, six),
         Call::rdp(4, Tuple::proposal_template(0, 3)),
         Call::inp(4, Tuple::proposal_template(0, 3)),
         Call::cas(1, Tuple::decision_template(0), Tuple::decision(0, 0x50, 5)),
         Call::cas(1, Tuple::decision_template(0), Tuple::decision(0, 1, 5)),
+        Call::cas(1, Tuple::decision_template(0), Tuple::decision(0, 1, 3)),
         Call::cas(1, Tuple::decision_template(0), Tuple::decision(0, 0, 11)),
         Call::cas(1, weak(None), weak(Some(3))),
         Call::cas(3, six, six),
@@ -136,15 +139,13 @@ fn calls_with_wrong_fields() {
     let mut dice = Dice::new(3);
     let boards = base_boards();
     let mut inputs = 0;
-    let mut answers = [0usize; 12];
+    let mut answers = [0usize; ANSWERS];
+    let mut denials = Denials::default();
     let mut try_call = |dice: &mut Dice, call: &Call| {
-        let mut board = dice.pick(&boards.iter().collect::<Vec<_>>()).clone();
-        let answer = compare_call(&mut board, call);
-        if let AnswerKind::Refused(refusal) = answer.kind {
-            answers[refusal.number() as usize] += 1;
-        } else {
-            answers[0] += 1;
-        }
+        let before = dice.pick(&boards.iter().collect::<Vec<_>>());
+        let answer = compare_call(&mut before.clone(), call);
+        denials.note(before, call, &answer);
+        answers[refusal_of(&answer)] += 1;
         inputs += 1;
     };
     for call in base_calls() {
@@ -167,8 +168,9 @@ fn calls_with_wrong_fields() {
     count(
         "calls with fields wrong in turn and in pairs",
         inputs,
-        format!("answered, refused 1 to 11: {answers:?}"),
+        format!("answered, refused 1 to 13: {answers:?}"),
     );
+    assert!(answers[12] > 10 && answers[13] > 50, "{answers:?}");
 }
 
 /// A tuple near the policies' shapes, as no run need make it.
@@ -237,10 +239,11 @@ fn aimed_call(dice: &mut Dice, board: &Board) -> Call {
 #[test]
 fn boards_that_no_run_makes() {
     let mut dice = Dice::new(4);
-    let (mut inputs, mut outcomes) = (0, [0usize; 12]);
+    let (mut inputs, mut outcomes) = (0, [0usize; ANSWERS]);
+    let mut denials = Denials::default();
     // Decisions that are inserted or held under policies 2 and 3.
     let mut decisions = [0usize; 2];
-    for _ in 0..36_000 {
+    for _ in 0..30_000 {
         let config = if dice.one_in(8) {
             odd_config(&mut dice)
         } else {
@@ -278,20 +281,150 @@ fn boards_that_no_run_makes() {
         }
         for _ in 0..2 {
             let call = aimed_call(&mut dice, &board);
+            let before = board.clone();
             let answer = compare_call(&mut board, &call);
-            outcomes[match answer.kind {
-                AnswerKind::Refused(refusal) => refusal.number() as usize,
-                _ => 0,
-            }] += 1;
+            denials.note(&before, &call, &answer);
+            outcomes[refusal_of(&answer)] += 1;
             if matches!(answer.kind, AnswerKind::Inserted | AnswerKind::Held) && config.policy >= DEFAULT {
                 decisions[usize::from(config.policy == STRONG)] += 1;
             }
             inputs += 1;
         }
     }
-    count("calls on boards that no run makes", inputs, format!("answered, refused 1 to 11: {outcomes:?}"));
+    count("calls on boards that no run makes", inputs, format!("answered, refused 1 to 13: {outcomes:?}"));
     println!("         inserted or held under policies 2 and 3: {decisions:?}");
     assert!(decisions.iter().all(|decided| *decided > 200), "{decisions:?}");
+    assert!(outcomes[12] > 200 && outcomes[13] > 200, "{outcomes:?}");
+}
+
+/// A board of one round: who has proposed what, mostly as a run makes it, at times decided or full.
+fn board_of_a_round(dice: &mut Dice, round: u64) -> Board {
+    let (n, policy) = (1 + dice.below(MOST_SEATS), dice.pick(&[DEFAULT, STRONG]));
+    let config = config_of(dice, n, policy);
+    let (share, odd) = (dice.pick(&[1, 2, 3, 4, 4, 4]), dice.one_in(2));
+    let mut tuples = Vec::new();
+    for seat in 1..=n {
+        // What no run makes: the mark or what is no choice, and a second proposal.
+        let rare = if odd { dice.below(8) } else { 2 };
+        if rare == 0 {
+            let none = if policy == STRONG { no_choice(dice, config.k) } else { Offset::MARK };
+            tuples.push(Tuple::proposal(round, seat, none));
+        } else if dice.below(4) < share {
+            tuples.push(Tuple::proposal(round, seat, likely_offset(dice, &config)));
+        }
+        if rare == 1 {
+            tuples.push(Tuple::proposal(round, seat, near_offset(dice, &config)));
+        }
+    }
+    if dice.one_in(4) {
+        tuples.push(Tuple::decision(round, likely_offset(dice, &config), 1));
+    }
+    if dice.one_in(8) {
+        tuples.resize_with(MOST_TUPLES, || odd_tuple(dice, &config));
+    }
+    let mut board = Board::fresh(config).expect("a sound set-up");
+    board.tuples[..tuples.len()].copy_from_slice(&tuples);
+    board.count = tuples.len();
+    board
+}
+
+/// Some members of a set, so many at most.
+fn some_of(dice: &mut Dice, set: u64, most: u64) -> u64 {
+    let mut some = set;
+    while u64::from(some.count_ones()) > most {
+        some &= !(1 << dice.below(MOST_SEATS));
+    }
+    some
+}
+
+/// An out in a round: the seat's first proposal or its second, of the same or another offset, the mark or what is no choice, now and
+/// then of another's number.
+fn near_out(dice: &mut Dice, board: &Board, round: u64) -> Call {
+    let process = 1 + dice.below(board.config.n);
+    let place = Tuple::proposal_template(round, process);
+    let standing = board.held().iter().find(|held| place.matches(held));
+    let offset = match (standing, dice.below(8)) {
+        (Some(held), 0..=2) => held.fields[3].value,
+        (_, 6) => Offset::MARK,
+        (_, 7) => no_choice(dice, board.config.k),
+        _ => likely_offset(dice, &board.config),
+    };
+    let seat = if dice.one_in(5) { 1 + dice.below(board.config.n) } else { process };
+    Call::out(process as u32, Tuple::proposal(round, seat, offset))
+}
+
+/// A cas in a round: of an offset or the mark with those that bear it, and then with fewer, with others or with none.
+fn near_cas(dice: &mut Dice, board: &Board, round: u64) -> Call {
+    let Config { n, t, policy, .. } = board.config;
+    let all = (1 << n) - 1;
+    let offset = match dice.below(8) {
+        0..=2 if policy == DEFAULT => Offset::MARK,
+        0 => no_choice(dice, board.config.k),
+        _ => likely_offset(dice, &board.config),
+    };
+    let proposed = bearers(board, round, Offset::MARK) & all;
+    let (bear, enough) = if offset == Offset::MARK {
+        // At most t of each offset, so that none is crowded.
+        let offsets: Vec<u64> =
+            board.held().iter().filter_map(Tuple::as_proposal).map(|(_, _, offset)| offset).collect();
+        let few = |set, offset: &u64| {
+            let theirs = bearers(board, round, *offset);
+            set & !theirs | some_of(dice, set & theirs, t)
+        };
+        (offsets.iter().filter(|w| **w != Offset::MARK).fold(proposed, few), n - t)
+    } else {
+        (bearers(board, round, offset) & all, t + 1)
+    };
+    let set = match dice.below(12) {
+        0 => 0,
+        1 | 2 => some_of(dice, bear, enough - 1),
+        // Those that proposed nothing, one or all of them; those that proposed something else.
+        3 => bear | some_of(dice, all & !proposed, 1),
+        4 => bear | all & !proposed,
+        5 | 6 => bear | some_of(dice, proposed & !bear, 1),
+        7 => proposed,
+        8 => (bear | 1 << dice.below(MOST_SEATS)) & Kind::Seats.last(),
+        9 => dice.below(all + 1),
+        // With t = 0 nobody bears the mark.
+        _ if bear == 0 => proposed,
+        _ => bear,
+    };
+    let asked = if dice.one_in(12) { dice.below(LAST_ROUND + 2) } else { round };
+    let process = 1 + dice.below(n) as u32;
+    Call::cas(process, Tuple::decision_template(asked), Tuple::decision(round, offset, set))
+}
+
+/// Calls that policies 2 and 3 deny for one cause alone, and those beside them.
+#[test]
+fn denials_and_their_causes() {
+    let mut dice = Dice::new(14);
+    let (mut inputs, mut outcomes) = (0, [0usize; ANSWERS]);
+    let mut denials = Denials::default();
+    for _ in 0..5_000 {
+        let round = dice.pick(&[0, 1, 6, 7, 8]);
+        let before = board_of_a_round(&mut dice, round);
+        for _ in 0..4 {
+            let mut call = match dice.below(10) {
+                0..=3 => near_out(&mut dice, &before, round),
+                4 => Call::inp(1, Tuple::proposal_template(round, 1)),
+                _ => near_cas(&mut dice, &before, round),
+            };
+            if dice.one_in(10) {
+                let part = dice.below(PARTS);
+                spoil(&mut dice, &mut call, part);
+            }
+            let answer = compare_call(&mut before.clone(), &call);
+            denials.note(&before, &call, &answer);
+            outcomes[refusal_of(&answer)] += 1;
+            inputs += 1;
+        }
+    }
+    count("calls denied and beside those", inputs, format!("answered, refused 1 to 13: {outcomes:?}"));
+    denials.print();
+    denials.assert_each(DEFAULT, &Cause::BOTH, 25);
+    denials.assert_each(DEFAULT, &Cause::DEFAULT_ONLY, 25);
+    denials.assert_each(STRONG, &Cause::BOTH, 25);
+    denials.assert_each(STRONG, &Cause::STRONG_ONLY, 25);
 }
 
 /// How many tuples the boards hold that are then made dirty.
@@ -511,6 +644,8 @@ fn answer(dice: &mut Dice, seat: &Seat) -> Answer {
             AnswerKind::Found,
             AnswerKind::Held,
             AnswerKind::Refused(Refusal::Denied),
+            AnswerKind::Refused(Refusal::Second),
+            AnswerKind::Refused(Refusal::Unborne),
             AnswerKind::Refused(Refusal::Unfit),
         ])),
         (Phase::Proposing, _) => Answer::DONE,
@@ -585,10 +720,11 @@ fn numbers_that_are_no_case() {
             match dice.below(2) {
                 0 => {
                     (reply.outcome, reply.refusal) =
-                        (dice.pick(&[5, 6, 7, 128, 255]), dice.pick(&[0, 1, 7, 11, 12, 255]))
+                        (dice.pick(&[5, 6, 7, 128, 255]), dice.pick(&[0, 1, 7, 11, 12, 13, 14, 255]))
                 }
                 _ => {
-                    (reply.outcome, reply.refusal) = (dice.below(6) as u8, dice.pick(&[1, 2, 7, 11, 12, 255]))
+                    (reply.outcome, reply.refusal) =
+                        (dice.below(6) as u8, dice.pick(&[1, 2, 7, 11, 12, 13, 14, 255]))
                 }
             }
             let unknown = Answer { kind: AnswerKind::Refused(Refusal::Unfit), tuple: answer.tuple };

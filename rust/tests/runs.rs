@@ -79,6 +79,8 @@ struct Record {
     decisions: HashMap<u64, u64>,
     proposed: HashMap<u64, Vec<u64>>,
     done: HashMap<u64, u64>,
+    /// How many calls were refused 7, 12 and 13.
+    denied: [usize; 3],
 }
 
 impl Record {
@@ -101,7 +103,13 @@ impl Record {
                 let (round, offset, _) = answer.tuple.as_decision().unwrap();
                 self.decide(round, offset);
             }
-            AnswerKind::None | AnswerKind::Found | AnswerKind::Refused(_) => {}
+            AnswerKind::Refused(refusal) => {
+                let denials = [Refusal::Denied, Refusal::Second, Refusal::Unborne];
+                if let Some(place) = denials.iter().position(|denial| *denial == refusal) {
+                    self.denied[place] += 1;
+                }
+            }
+            AnswerKind::None | AnswerKind::Found => {}
         }
     }
 }
@@ -118,8 +126,9 @@ fn set_up(dice: &mut Dice, policy: u64) -> (Config, Vec<u64>) {
     (Config { n, t, policy, k }, (0..=dice.below(k)).map(|choice| 1 + 2 * choice).collect())
 }
 
-/// Makes one run; gives the number of rounds decided in it.
-fn run(dice: &mut Dice, policy: u64) -> usize {
+/// Makes one run; gives the number of rounds decided in it, and how many calls
+/// were refused 7, 12 and 13.
+fn run(dice: &mut Dice, policy: u64) -> (usize, [usize; 3]) {
     let (config, offsets) = set_up(dice, policy);
     let Config { n, t, k, .. } = config;
     let mut board = Board::fresh(config).unwrap();
@@ -201,15 +210,21 @@ fn run(dice: &mut Dice, policy: u64) -> usize {
             assert_eq!(*offset, proposed[0]);
         }
     }
-    decided
+    (decided, record.denied)
 }
 
 #[test]
 fn runs_with_strays() {
     let mut dice = Dice(0x9E37_79B9_7F4A_7C15);
     for policy in [DEFAULT, STRONG] {
-        let decided: usize = (0..150).map(|_| run(&mut dice, policy)).sum();
+        let (mut decided, mut denied) = (0, [0; 3]);
+        for _ in 0..150 {
+            let (rounds, calls) = run(&mut dice, policy);
+            decided += rounds;
+            denied = [0, 1, 2].map(|place| denied[place] + calls[place]);
+        }
         assert!(decided > 300, "{decided} under policy {policy}");
+        assert!(denied.iter().all(|calls| *calls > 100), "{denied:?} under policy {policy}");
     }
 }
 

@@ -6,6 +6,7 @@ mod common;
 
 use std::collections::{BTreeMap, HashMap};
 
+use common::denials::{Cause, Denials};
 use common::*;
 use reference::fields::MOST_SEATS;
 use reference::policy::{DEFAULT, STRONG};
@@ -37,6 +38,7 @@ struct Counts {
     marks: usize,
     raced: usize,
     refused: usize,
+    denials: Denials,
 }
 
 struct Run {
@@ -79,6 +81,7 @@ impl Run {
     fn call(&mut self, call: &Call, counts: &mut Counts) -> Answer {
         let before = self.board.clone();
         let answer = compare_call(&mut self.board, call);
+        counts.denials.note(&before, call, &answer);
         counts.calls += 1;
         if let Ok(record) = record_of(call) {
             self.script.extend(record);
@@ -204,7 +207,8 @@ fn stray_call(dice: &mut Dice, run: &Run, process: u32, round: u64, offsets: &[u
             cas(Offset::MARK, set(&mut few.map(|(k, _)| *k)))
         }
         // The mark with all that proposed, or with all.
-        8 => cas(Offset::MARK, set(&mut proposed.keys().copied())),
+        8 if dice.one_in(2) => cas(Offset::MARK, set(&mut proposed.keys().copied())),
+        8 => cas(Offset::MARK, (1 << n) - 1),
         9 => cas(if dice.one_in(2) { Offset::MARK } else { offset }, dice.below(1 << MOST_SEATS)),
         10 => Call::rdp(process, Tuple::decision_template(round)),
         _ => Call::inp(
@@ -358,24 +362,44 @@ fn runs_under(policy: u64, seed: u64, runs: usize) -> Counts {
     for _ in 0..runs {
         run_of_seats(&mut dice, policy, &mut counts);
     }
-    let Counts { calls, handings, scripts, decided, marks, raced, refused } = counts;
+    let Counts { calls, handings, scripts, decided, marks, raced, refused, .. } = counts;
     println!("compared {calls:>7} calls of {runs} runs under policy {policy}: {refused} refused");
+    counts.denials.print();
     println!("         {decided:>7} rounds decided: {marks} with the mark, {raced} by a stray's cas");
     println!("compared {handings:>7} answers handed to following seats");
     println!("compared {scripts:>7} scripts of these runs, whole, damaged, into short buffers");
     counts
 }
 
+/// Why strays' calls are denied in runs, under both policies.
+const IN_RUNS: [Cause; 10] = [
+    Cause::SameAgain,
+    Cause::OtherAgain,
+    Cause::MarkAgain,
+    Cause::AnothersAgain,
+    Cause::NoMember,
+    Cause::TooFew,
+    Cause::Differs,
+    Cause::Silent,
+    Cause::AboveN,
+    Cause::RoundAbove,
+];
+
 #[test]
 fn runs_under_policy_2() {
-    let Counts { decided, marks, raced, .. } = runs_under(DEFAULT, 11, 160);
+    let Counts { decided, marks, raced, denials, .. } = runs_under(DEFAULT, 11, 160);
     assert!(decided > 300 && marks > 30 && raced > 30, "{decided} {marks} {raced}");
+    denials.assert_each(DEFAULT, &IN_RUNS, 10);
+    let marks = [Cause::MarkNoMember, Cause::MarkTooFew, Cause::MarkSilent, Cause::MarkCrowded];
+    denials.assert_each(DEFAULT, &marks, 10);
 }
 
 #[test]
 fn runs_under_policy_3() {
-    let Counts { decided, marks, raced, .. } = runs_under(STRONG, 13, 80);
+    let Counts { decided, marks, raced, denials, .. } = runs_under(STRONG, 13, 80);
     assert!(decided > 150 && marks == 0 && raced > 15, "{decided} {marks} {raced}");
+    denials.assert_each(STRONG, &IN_RUNS, 3);
+    denials.assert_each(STRONG, &Cause::STRONG_ONLY, 5);
 }
 
 #[test]

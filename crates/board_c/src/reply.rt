@@ -196,6 +196,8 @@ fn refusal_of(number: u8) -> Refusal
         8 => Refusal::Full,
         9 => Refusal::LongScript,
         10 => Refusal::NoRoom,
-        _ => Refusal::Unfit,
+        11 => Refusal::Unfit,
+        12 => Refusal::SecondProposal,
+        _ => Refusal::Unborne,
     }
 }

@@ -1,5 +1,5 @@
--- Refusal 7, refused calls and well-formed spaces: what a call answers and leaves, in document 01's words.
-use mathlib.Core.Path.{_≡_, refl, sym, ap}
+-- Refusals 7, 12 and 13, refused calls and well-formed spaces: what a call answers and leaves, in document 01's words.
+use mathlib.Core.Path.{_≡_, refl, sym, ap, subst}
 use native.Mathlib.Omega.{arith}
 use mathlib.Core.List.{List}
 use borrow.Author.Tests.{le-leb}
@@ -9,8 +9,9 @@ use Rattle.calls.specs.declared.turn.Applied.{Applied}
 use Rattle.calls.specs.Changes.{carriedOut}
 use Rattle.calls.specs.Laws.{Denied, DeniedRule, Unchanged, Kept}
 use Rattle.calls.specs.Turns.{firstRefusal, judged, applied}
-use Rattle.calls.proofs.CallSteps.{Puts, Moves, moves, Steps, formed-bounded, steps}
+use Rattle.calls.proofs.CallSteps.{Puts, Moves, moves, denial-late, denial-never, Steps, formed-bounded, steps}
 use Rattle.calls.proofs.RunSteps.{next, run-tidy, run-formed}
+use Rattle.policy.specs.Laws.{Denial}
 use Rattle.policy.specs.Policies.{verdict}
 use Rattle.space.specs.declared.space.Space.{Space}
 use Rattle.space.specs.Configs.{known}
@@ -35,11 +36,11 @@ moves-refused why Moves.keeps r = (cc, cc)
 moves-refused why (Moves.takes i e inside) r = (cc, cc)
 
 module _ (space : Space) (call : Call) where
-  steps-denied : {after : Applied} → Steps space call after → after .reply .outcome ≡ Refused (refusal 7) → Denied space call
-  steps-denied (Steps.refuses why low) r = let same : why ≡ refusal 7 = cc in absurd (omega (arith, rw same at low))
-  steps-denied (Steps.denies d) r = d
-  steps-denied (Steps.obeys formed sound known p) r =
-      let same = moves-refused (refusal 7) (moves (held space) call sound) r .0 in absurd (omega (arith, ap numberOf same))
+  steps-denied : {after : Applied} (why : Refusal) → Denial why → Steps space call after → after .reply .outcome ≡ Refused why → Denied why space call
+  steps-denied why denial (Steps.refuses other low) r = let same : other ≡ why = cc in absurd (omega (arith, low, ap numberOf same, denial-late denial))
+  steps-denied why denial (Steps.denies {why = other} d) r = let same : other ≡ why = cc in subst (λ (w : Refusal). Denied w space call) same d
+  steps-denied why denial (Steps.obeys formed sound known p) r =
+      absurd (denial-never denial (ap numberOf (moves-refused why (moves (held space) call sound) r .0)))
 
   steps-unchanged : {after : Applied} (why : Refusal) → Steps space call after → after .reply .outcome ≡ Refused why → after .space ≡ space
   unfolding carriedOut
@@ -50,8 +51,8 @@ module _ (space : Space) (call : Call) where
 
 pub denied-rule : DeniedRule
 unfolding applied judged firstRefusal verdict known
-denied-rule space call = (
-  steps-denied space call (steps space call),
+denied-rule space call why denial = (
+  steps-denied space call why denial (steps space call),
   λ d. rw (d .formed, formed-bounded space (d .formed), d .sound, le-leb 1 (call .process) (d .known .0), le-leb (call .process) (space .config .n) (d .known .1), d .forbidden),
 )
 

@@ -19,6 +19,8 @@ use Rattle.calls.specs.Laws.{Denied}
 use Rattle.calls.specs.Turns.{behindFault, firstRefusal, judgedBy, judged, carriedBy, applied}
 use Rattle.calls.proofs.ChangeLaws.{carried-rules}
 use Rattle.policy.specs.declared.verdicts.Verdict.the-variants.{Permit}
+use Rattle.policy.specs.Laws.{Denial}
+use Rattle.policy.specs.Laws.Denial.{denied, second, unborne}
 use Rattle.policy.specs.Policies.{verdictOn, verdict}
 use Rattle.policy.specs.Verdicts.{demand}
 use Rattle.policy.proofs.PolicyLaws.{verdict-rule}
@@ -184,9 +186,20 @@ module _ {tuples : List Tuple} {call : Call} where
 
 -- ---- the space
 
+-- a denial stands behind the refusals 1 to 6, and is not 8
+pub denial-late : {why : Refusal} → Denial why → 7 ≤ numberOf why
+denial-late denied = omega arith
+denial-late second = omega arith
+denial-late unborne = omega arith
+
+pub denial-never : {why : Refusal} → Denial why → numberOf why ≡ 8 → ⊥
+denial-never denied e = omega arith
+denial-never second e = omega arith
+denial-never unborne e = omega arith
+
 pub data Steps (space : Space) (call : Call) : Applied → Type 0 where
   refuses : (why : Refusal) → numberOf why ≤ 6 → Steps space call (carriedBy space call (effects.refuses why))
-  denies : Denied space call → Steps space call (carriedBy space call (effects.refuses (refusal 7)))
+  denies : {why : Refusal} → Denied why space call → Steps space call (carriedBy space call (effects.refuses why))
   obeys : wellFormed space ≡ true → callFault call ≡ Absent → (1 ≤ call .process) × (call .process ≤ space .config .n)
       → verdictOn (space .config) (held space) call ≡ Permit
       → Steps space call (carriedBy space call (effects.effect (held space) call))
@@ -205,7 +218,7 @@ module _ (space : Space) (call : Call) where
         let member = between 1 (call .process) (space .config .n) k in
         elim (verdict-rule (space .config) (held space) call) [
           | inl p ↦ rw (bound, p) (obeys formed sound member p)
-          | inr d ↦ rw (bound, d) (denies (record { formed = formed; sound = sound; known = member; forbidden = d }))
+          | inr d ↦ rw (bound, d .2) (denies {why = d .0} (record { cause = d .1; formed = formed; sound = sound; known = member; forbidden = d .2 }))
         ]
 
     fault-steps : (fault : Fault) → callFault call ≡ fault → Early fault

@@ -1,5 +1,5 @@
 -- What a call does under policies 1 to 3: nothing changes, or a proposal or a decision is put that the policy asks for.
-use mathlib.Core.Path.{_≡_, refl, sym, _∙_}
+use mathlib.Core.Path.{_≡_, refl, sym, ap, _∙_}
 use Prim.Native.Nat.{ℕ, _≤_, _<_}
 use native.Mathlib.Omega.{arith}
 use mathlib.Core.Bool.{true}
@@ -13,7 +13,7 @@ use Rattle.calls.specs.declared.turn.Applied.{Applied}
 use Rattle.calls.specs.Changes.{carriedOut}
 use Rattle.calls.specs.RunLaws.{NoInp}
 use Rattle.calls.specs.Turns.{applied}
-use Rattle.calls.proofs.CallSteps.{Puts as Enters, Moves, moves, changed, moves-carried, Steps, steps}
+use Rattle.calls.proofs.CallSteps.{Puts as Enters, Moves, moves, changed, moves-carried, denial-never, Steps, steps}
 use Rattle.calls.proofs.CallSteps.Puts.{by-out, by-cas}
 use Rattle.calls.proofs.CallSteps.Moves.{adds, reads, lacks, keeps, takes}
 use Rattle.calls.proofs.CallSteps.Steps.{refuses, denies, obeys}
@@ -43,6 +43,7 @@ use Rattle.tuple.specs.Bounds.{capacity}
 use Rattle.tuple.specs.Fields.{out, cas, blankTuple}
 use Rattle.tuple.specs.Matching.{oldestOf}
 use Rattle.tuple.specs.Offsets.{bottom}
+use Rattle.tuple.specs.Refusals.{numberOf}
 use Rattle.tuple.proofs.MatchRules.{oldest-rule}
 
 -- ---- what is put
@@ -171,7 +172,7 @@ module _ (config : Config) (safe : sound config ≡ true) (strict : 1 ≤ config
   stepped : {done : Applied} → Steps (spaceOf config tuples) call done → Step config tuples call done
   unfolding carriedOut
   stepped (refuses why low) = kept (λ e. let same : why ≡ Full = cc in omega (arith, rw same at low)) refl
-  stepped (denies d) = kept (λ e. let z : _≡_ {A = ℕ} 0 1 = cc in omega arith) refl
+  stepped (denies {why} d) = kept (λ e. let same : why ≡ Full = cc in denial-never (d .cause) (ap numberOf same)) refl
   stepped (obeys formed fault known p) =
       let same : held (spaceOf config tuples) ≡ tuples = held-of config tuples in
       let moved = moves tuples call fault in

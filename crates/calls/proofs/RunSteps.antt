@@ -1,4 +1,5 @@
--- Lists of calls of a sound configuration: each space is that of lawful tuples, and each call either is refused at most 7 and changes nothing, or moves them.
+-- Lists of calls of a sound configuration: each space is that of lawful tuples, and each call either is refused, not for room, and changes nothing, or
+-- moves them.
 use mathlib.Core.Path.{_≡_, refl, ap}
 use Prim.Native.Nat.{_≤_}
 use native.Mathlib.Omega.{arith}
@@ -9,7 +10,7 @@ use Rattle.calls.specs.declared.turn.Applied.{Applied}
 use Rattle.calls.specs.Changes.{carriedOut}
 use Rattle.calls.specs.Effects.{effect}
 use Rattle.calls.specs.Turns.{applied, turnsFrom, lastOf, after}
-use Rattle.calls.proofs.CallSteps.{Moves, moves, changed, moves-carried, moves-lawful, Steps, steps}
+use Rattle.calls.proofs.CallSteps.{denial-never, Moves, moves, changed, moves-carried, moves-lawful, Steps, steps}
 use Rattle.policy.specs.declared.verdicts.Verdict.the-variants.{Permit}
 use Rattle.policy.specs.Policies.{verdictOn}
 use Rattle.space.specs.declared.config.Config.{Config}
@@ -30,7 +31,7 @@ use Rattle.tuple.specs.Refusals.{numberOf, refusal}
 
 -- what a call makes of the tuples, and the answer
 pub data Goes (config : Config) (tuples : List Tuple) (call : Call) : Outcome → List Tuple → Type 0 where
-  stays : (why : Refusal) → numberOf why ≤ 7 → Goes config tuples call (Refused why) tuples
+  stays : (why : Refusal) → (numberOf why ≡ 8 → ⊥) → Goes config tuples call (Refused why) tuples
   goes : {how : Outcome} {change : Change} → callFault call ≡ Absent → verdictOn config tuples call ≡ Permit → Moves tuples call how change
       → Goes config tuples call how (changed tuples (call .entry) change)
 
@@ -48,9 +49,9 @@ module _ {config : Config} {call : Call} where
   next-steps : {tuples : List Tuple} {next : Applied} → Lawful tuples → Steps (spaceOf config tuples) call next → Next config tuples call next
   unfolding carriedOut
   next-steps {tuples} lawful (Steps.refuses why low) =
-      record { run = record { tuples = tuples; lawful = lawful; same = refl }; goes = Goes.stays why (omega arith) }
-  next-steps {tuples} lawful (Steps.denies d) =
-      record { run = record { tuples = tuples; lawful = lawful; same = refl }; goes = Goes.stays (refusal 7) (omega arith) }
+      record { run = record { tuples = tuples; lawful = lawful; same = refl }; goes = Goes.stays why (λ full. omega arith) }
+  next-steps {tuples} lawful (Steps.denies {why} d) =
+      record { run = record { tuples = tuples; lawful = lawful; same = refl }; goes = Goes.stays why (denial-never (d .cause)) }
   next-steps {tuples} lawful (Steps.obeys formed faultless known p) =
       let same : held (spaceOf config tuples) ≡ tuples = held-of config tuples in
       let moved = moves tuples call faultless in

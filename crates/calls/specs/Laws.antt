@@ -9,6 +9,7 @@ use Rattle.calls.specs.declared.change.Change.the-variants.{Append, Remo
 use Rattle.calls.specs.Changes.{without, carriedOut}
 use Rattle.calls.specs.Turns.{applied}
 use Rattle.policy.specs.declared.verdicts.Verdict.the-variants.{Refuse}
+use Rattle.policy.specs.Laws.{Denial}
 use Rattle.policy.specs.Policies.{verdictOn}
 use Rattle.space.specs.declared.config.Config.{Config}
 use Rattle.space.specs.declared.space.Space.{Space}
@@ -30,15 +31,16 @@ pub record CarriedRule (config : Config) (tuples : List Tuple) (entry : Tuple) :
 abbrev pub CarriedRules : Type 0
 CarriedRules = (config : Config) (tuples : List Tuple) (entry : Tuple) → CarriedRule config tuples entry
 
--- 7 comes exactly when no earlier refusal does and the policy doesn't permit the call
-pub record Denied (space : Space) (call : Call) : Type 0 where
+-- 7, 12 and 13 come exactly when no earlier refusal does and the policy doesn't permit the call, for this cause
+pub record Denied (why : Refusal) (space : Space) (call : Call) : Type 0 where
+  pub cause : Denial why
   pub formed : wellFormed space ≡ true
   pub sound : callFault call ≡ Absent
   pub known : (1 ≤ call .process) × (call .process ≤ space .config .n)
-  pub forbidden : verdictOn (space .config) (held space) call ≡ Refuse (refusal 7)
+  pub forbidden : verdictOn (space .config) (held space) call ≡ Refuse why
 
 abbrev pub DeniedRule : Type 0
-DeniedRule = (space : Space) (call : Call) → (applied space call .reply .outcome ≡ Refused (refusal 7)) ↔ Denied space call
+DeniedRule = (space : Space) (call : Call) (why : Refusal) → Denial why → (applied space call .reply .outcome ≡ Refused why) ↔ Denied why space call
 
 -- a refused call leaves the space as it was
 abbrev pub Unchanged : Type 0

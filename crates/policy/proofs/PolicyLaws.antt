@@ -1,5 +1,5 @@
 -- Each policy permits exactly what the words of documents 01 and 02 say. From the definitions of policies and the laws of proposals and sets.
-use mathlib.Core.Path.{_≡_, refl, ap, _∙_}
+use mathlib.Core.Path.{_≡_, refl, sym, _∙_}
 use mathlib.Core.Logic.{_↔_, _⊎_, inl, inr, ⊎-elim}
 use mathlib.Core.Bool.{Bool, true, false, false≢true, cond, not, _&&_, and-false, and-eq-true-iff}
 use mathlib.Core.List.{List}
@@ -7,13 +7,14 @@ use Prim.Native.Nat.{ℕ, _+_, _-_, _≤_, _<_}
 use native.Mathlib.Omega.{arith}
 use lib.Count.{ones}
 use lib.Dec.{leb, eqb}
-use borrow.Author.Tests.{ltb-true, leb-true, eqb-true, eqb-false, not-true, lt-ltb, le-leb, eq-eqb, ne-eqb}
+use borrow.Author.Tests.{ltb-true, leb-true, eqb-true, eqb-false, not-true, not-false, lt-ltb, le-leb, eq-eqb, ne-eqb}
 use borrow.Table.Steps.{cases}
 use Rattle.policy.specs.declared.verdicts.Verdict.{Verdict}
 use Rattle.policy.specs.declared.verdicts.Verdict.the-variants.{Permit, Refuse}
 use Rattle.policy.specs.Justified.{isOwnProposal, isFree, outVerdict, isDecisionCall, bearsOffset, bears, casVerdict, justified}
 use Rattle.policy.specs.Default.{bearsBottom}
-use Rattle.policy.specs.Laws.{VerdictRule, UnknownRule, BoundedRule, BareRule, WeakRule, OutRule, RdpRule, InpRule, DecisionCall, BearsOffset, BearsBottom, CasOffsetRule, CasBottomRule, CasChoiceRule}
+use Rattle.policy.specs.Laws.{Denial, VerdictRule, SecondProposal, SecondRule, Unborne, UnborneRule, OtherwiseRule, UnknownRule, BoundedRule, BareRule, WeakRule, OutRule, RdpRule, InpRule, DecisionCall, BearsOffset, BearsBottom, CasOffsetRule, CasBottomRule, CasChoiceRule}
+use Rattle.policy.specs.Laws.Denial.{denied, second, unborne}
 use Rattle.policy.specs.Policies.{verdictOn, verdict}
 use Rattle.policy.specs.Shapes.{sameRound, isWeakTemplate, isWeakEntry, isDecisionTemplate, isDecision, decidedCode, setOf}
 use Rattle.policy.specs.Verdicts.{demand}
@@ -43,38 +44,6 @@ use Rattle.tuple.specs.Refusals.{refusal}
 pub demanded : (test : Bool) (why : Refusal) (next : Verdict) → demand test why next ≡ Permit → (test ≡ true) × (next ≡ Permit)
 demanded true why next h = (refl, h)
 demanded false why next h = let z : _≡_ {A = ℕ} 0 1 = cc in absurd (omega arith)
-
--- permitted, or denied, which is 7
-abbrev Ruled : Verdict → Type 0
-Ruled v = (v ≡ Permit) ⊎ (v ≡ Refuse (refusal 7))
-
--- so is a verdict whose refusal, if it has one, is 7
-abbrev reason : Verdict → Refusal
-reason Permit = refusal 7
-reason (Refuse why) = why
-
-ruled : (v : Verdict) → reason v ≡ refusal 7 → Ruled v
-ruled Permit h = inl refl
-ruled (Refuse why) h = inr (ap Refuse h)
-
-demand-ruled : (test : Bool) {next : Verdict} → Ruled next → Ruled (demand test (refusal 7) next)
-demand-ruled true h = h
-demand-ruled false h = inr refl
-
-cond-ruled : (test : Bool) {a b : Verdict} → Ruled a → Ruled b → Ruled (cond test a b)
-cond-ruled true a b = a
-cond-ruled false a b = b
-
-pub verdict-rule : VerdictRule
-unfolding verdictOn weak justified outVerdict casVerdict
-verdict-rule config tuples call =
-    cond-ruled (eqb (config .policy) 0) (ruled _ refl)
-    (cond-ruled (eqb (config .policy) 1) (demand-ruled (isWeakCall call) (ruled _ refl))
-    (cond-ruled (hasProposals config)
-    (cond-ruled (eqb (call .code) out) (demand-ruled (isOwnProposal config call) (demand-ruled (isFree config tuples (call .entry)) (ruled _ refl)))
-    (cond-ruled (eqb (call .code) rdp) (ruled _ refl)
-    (cond-ruled (eqb (call .code) cas) (demand-ruled (isDecisionCall config call) (demand-ruled (bears config tuples (call .entry)) (ruled _ refl))) (ruled _ refl))))
-    (ruled _ refl)))
 
 -- ---- by the policy's number
 
@@ -119,7 +88,7 @@ weak-rule config tuples call one =
     rw (under-weak config tuples call one) (
       λ h.
           let tests = and-eq-true-iff (eqb (call .code) cas && isWeakTemplate (call .template) && isWeakEntry (call .entry) && sameRound (call .template) (call .entry)) _ .0
-          (demanded (isWeakCall call) (refusal 7) Permit h .0) in
+          (demanded (isWeakCall call) _ Permit h .0) in
           let some : not (eqb decided bottom) ≡ true = tests .1 in
           let shapes = four (eqb (call .code) cas) (isWeakTemplate (call .template)) (isWeakEntry (call .entry)) (sameRound (call .template) (call .entry)) (tests .0) in
           let on = round .0 (shapes .3) in
@@ -154,8 +123,8 @@ out-rule config tuples call rests e =
     let none = free-rule config tuples entry in
     rw (under-justified config tuples call rests, e) (
       λ h.
-          let own = demanded (isOwnProposal config call) (refusal 7) (demand (isFree config tuples entry) (refusal 7) Permit) h in
-          let free = demanded (isFree config tuples entry) (refusal 7) Permit (own .1) .0 in
+          let own = demanded (isOwnProposal config call) _ _ h in
+          let free = demanded (isFree config tuples entry) _ Permit (own .1) .0 in
           let parts = four (isProposal entry) (inRounds (roundOf entry)) (eqb (processOf entry) (call .process)) (offered config (proposedCode entry)) (own .0) in
           let same : processOf entry ≡ call .process = eqb-true _ _ (parts .2) in
           record { shape = parts .0; in-rounds = ltb-true _ _ (parts .1); own = same; may = parts .3; free = rw same at (none .0 free) },
@@ -192,9 +161,9 @@ module _ (config : Config) (tuples : List Tuple) (call : Call) where
   unfolding casVerdict
   cas-rule Bears rests e borne = rw (under-cas rests e) (
     λ h.
-        let tests = demanded (isDecisionCall config call) (refusal 7) (demand (bears config tuples (call .entry)) (refusal 7) Permit) h in
+        let tests = demanded (isDecisionCall config call) _ _ h in
         let shaped = decision-rule .0 (tests .0) in
-        (shaped, borne shaped .0 (demanded (bears config tuples (call .entry)) (refusal 7) Permit (tests .1) .0)),
+        (shaped, borne shaped .0 (demanded (bears config tuples (call .entry)) _ Permit (tests .1) .0)),
     λ h. rw (decision-rule .1 (h .0), borne (h .0) .1 (h .1)),
   )
 
@@ -202,39 +171,50 @@ module _ (config : Config) (tuples : List Tuple) (call : Call) where
   pub decision-call : hasProposals config ≡ true → call .code ≡ cas → verdictOn config tuples call ≡ Permit → DecisionCall config call
   decision-call rests e permitted = cas-rule (bears config tuples (call .entry) ≡ true) rests e (λ shaped. (λ b. b, λ b. b)) .0 permitted .0
 
+-- what a set bears, of a cas that has the shapes
+module _ (config : Config) (tuples : List Tuple) (call : Call) (shaped : DecisionCall config call) where
+  abbrev entry : Tuple
+  entry = call .entry
+
+  abbrev round : ℕ
+  round = roundOf entry
+
+  abbrev set : ℕ
+  set = setOf entry
+
+  offset-borne : (decidedCode entry ≡ bottom → ⊥) → (bears config tuples entry ≡ true) ↔ BearsOffset config tuples entry
+  unfolding bears bearsOffset everyProposed
+  offset-borne some =
+      let w = decidedCode entry in
+      let each = every-member (proposed config tuples (One w) round) (λ k. proposed-rules config tuples round k .one w) (config .n) set (shaped .members) in (
+        λ h.
+            let tests : (leb (config .t + 1) (ones set) && everyProposed config tuples (One w) round set) ≡ true = rw (ne-eqb _ _ some) at h in
+            let parts = and-eq-true-iff _ _ .0 tests in
+            record { enough = leb-true _ _ (parts .0); each = each .0 (parts .1) },
+        λ b. rw (ne-eqb _ _ some, le-leb _ _ (b .enough)) (each .1 (b .each)),
+      )
+
+  bottom-borne : decidedCode entry ≡ bottom → (bears config tuples entry ≡ true) ↔ BearsBottom config tuples entry
+  unfolding bears bearsBottom everyProposed
+  bottom-borne none =
+      let each = every-member (proposed config tuples Some round) (λ k. proposed-rules config tuples round k .some) (config .n) set (shaped .members) in
+      let few = crowded-rule config tuples round set in
+      let count = backers-rule config tuples round set (within-rule (config .n) set .1 (shaped .members)) in (
+        λ h.
+            let tests : (leb (config .n - config .t) (ones set) && everyProposed config tuples Some round set && not (crowded config tuples round set)) ≡ true = rw (eq-eqb _ _ none) at h in
+            let all = and-eq-true-iff _ _ .0 tests in
+            let parts = and-eq-true-iff _ _ .0 (all .0) in
+            record { enough = leb-true _ _ (parts .0); each = each .0 (parts .1); few = λ w. count w .0 (few .0 (not-true _ (all .1)) w) },
+        λ b. rw (eq-eqb _ _ none, le-leb _ _ (b .enough), each .1 (b .each), few .1 (λ w. count w .1 (b .few w))),
+      )
+
 pub cas-offset-rule : CasOffsetRule
-unfolding bears bearsOffset everyProposed
 cas-offset-rule config tuples call rests e some =
-    let entry = call .entry in
-    cas-rule config tuples call (BearsOffset config tuples entry) rests e
-    (λ shaped.
-    let each = every-member (proposed config tuples (One (decidedCode entry)) (roundOf entry)) (λ k. proposed-rules config tuples (roundOf entry) k .one (decidedCode entry))
-    (config .n) (setOf entry) (shaped .members) in (
-      λ h.
-          let tests : (leb (config .t + 1) (ones (setOf entry)) && everyProposed config tuples (One (decidedCode entry)) (roundOf entry) (setOf entry)) ≡ true = rw (ne-eqb _ _ some) at h in
-          let parts = and-eq-true-iff _ _ .0 tests in
-          record { enough = leb-true _ _ (parts .0); each = each .0 (parts .1) },
-      λ b. rw (ne-eqb _ _ some, le-leb _ _ (b .enough)) (each .1 (b .each)),
-    ))
+    cas-rule config tuples call (BearsOffset config tuples (call .entry)) rests e (λ shaped. offset-borne config tuples call shaped some)
 
 pub cas-bottom-rule : CasBottomRule
-unfolding bears bearsBottom everyProposed
 cas-bottom-rule config tuples call two e none =
-    let entry = call .entry in
-    let round = roundOf entry in
-    let set = setOf entry in
-    cas-rule config tuples call (BearsBottom config tuples entry) (proposals-rule config .1 (inl two)) e
-    (λ shaped.
-    let each = every-member (proposed config tuples Some round) (λ k. proposed-rules config tuples round k .some) (config .n) set (shaped .members) in
-    let few = crowded-rule config tuples round set in
-    let count = backers-rule config tuples round set (within-rule (config .n) set .1 (shaped .members)) in (
-      λ h.
-          let tests : (leb (config .n - config .t) (ones set) && everyProposed config tuples Some round set && not (crowded config tuples round set)) ≡ true = rw (eq-eqb _ _ none) at h in
-          let all = and-eq-true-iff _ _ .0 tests in
-          let parts = and-eq-true-iff _ _ .0 (all .0) in
-          record { enough = leb-true _ _ (parts .0); each = each .0 (parts .1); few = λ w. count w .0 (few .0 (not-true _ (all .1)) w) },
-      λ b. rw (eq-eqb _ _ none, le-leb _ _ (b .enough), each .1 (b .each), few .1 (λ w. count w .1 (b .few w))),
-    ))
+    cas-rule config tuples call (BearsBottom config tuples (call .entry)) (proposals-rule config .1 (inl two)) e (λ shaped. bottom-borne config tuples call shaped none)
 
 pub cas-choice-rule : CasChoiceRule
 unfolding casVerdict isDecisionCall
@@ -244,3 +224,134 @@ cas-choice-rule config tuples call three e none =
     ⊎-elim (λ mark. cases (offered config code) (λ may. absurd (offered-some config code may mark)) (λ may. may)) (λ may. may) none in
     let undecidable : decidable config code ≡ false = offered-alone config code (λ two. omega arith) ∙ withheld in
     rw (under-cas config tuples call (proposals-rule config .1 (inr three)) e, undecidable, and-false)
+
+-- ---- why a call is not permitted
+
+data Cause (config : Config) (tuples : List Tuple) (call : Call) : Verdict → Type 0 where
+  permits : Cause config tuples call Permit
+  denies : Cause config tuples call (Refuse (refusal 7))
+  repeats : SecondProposal config tuples call → Cause config tuples call (Refuse (refusal 12))
+  lacks : Unborne config tuples call → Cause config tuples call (Refuse (refusal 13))
+
+module _ (config : Config) (tuples : List Tuple) (call : Call) where
+  taken-rule : isFree config tuples (call .entry) ≡ false → Placed tuples (roundOf (call .entry)) (processOf (call .entry))
+  unfolding isFree
+  taken-rule taken = proposed-rules config tuples (roundOf (call .entry)) (processOf (call .entry)) .taken .0 (not-false _ taken)
+
+  out-cause : hasProposals config ≡ true → call .code ≡ out → Cause config tuples call (outVerdict config tuples call)
+  unfolding outVerdict isOwnProposal
+  out-cause rests e =
+      let entry = call .entry in
+      cases (isOwnProposal config call)
+      (λ own. cases (isFree config tuples entry)
+      (λ free. rw (own, free) permits)
+      (λ taken.
+      let parts = four (isProposal entry) (inRounds (roundOf entry)) (eqb (processOf entry) (call .process)) (offered config (proposedCode entry)) own in
+      let same : processOf entry ≡ call .process = eqb-true _ _ (parts .2) in
+      rw (own, taken) (repeats (record {
+        policy = rests;
+        code = e;
+        shape = parts .0;
+        in-rounds = ltb-true _ _ (parts .1);
+        own = same;
+        may = parts .3;
+        stands = rw same at (taken-rule taken);
+      }))))
+      (λ other. rw other denies)
+
+  cas-cause : hasProposals config ≡ true → call .code ≡ cas → Cause config tuples call (casVerdict config tuples call)
+  unfolding casVerdict
+  cas-cause rests e =
+      cases (isDecisionCall config call)
+      (λ shapes. cases (bears config tuples (call .entry))
+      (λ borne. rw (shapes, borne) permits)
+      (λ unborne.
+      let shaped = decision-rule config tuples call .0 shapes in
+      rw (shapes, unborne) (lacks (record {
+        policy = rests;
+        code = e;
+        shaped = shaped;
+        offset = λ some b. false≢true (sym unborne ∙ offset-borne config tuples call shaped some .1 b);
+        mark = λ none b. false≢true (sym unborne ∙ bottom-borne config tuples call shaped none .1 b);
+      }))))
+      (λ other. rw other denies)
+
+  cause : Cause config tuples call (verdictOn config tuples call)
+  unfolding verdictOn weak justified
+  cause =
+      cases (eqb (config .policy) 0) (λ a. rw a permits)
+      (λ a. cases (eqb (config .policy) 1)
+      (λ b. cases (isWeakCall call) (λ c. rw (a, b, c) permits) (λ c. rw (a, b, c) denies))
+      (λ b. cases (hasProposals config)
+      (λ rests. cases (eqb (call .code) out)
+      (λ c. rw (a, b, rests, c) (out-cause rests (eqb-true (call .code) out c)))
+      (λ c. cases (eqb (call .code) rdp)
+      (λ d. rw (a, b, rests, c, d) permits)
+      (λ d. cases (eqb (call .code) cas)
+      (λ e. rw (a, b, rests, c, d, e) (cas-cause rests (eqb-true (call .code) cas e)))
+      (λ e. rw (a, b, rests, c, d, e) denies))))
+      (λ rests. rw (a, b, rests) denies)))
+
+-- permitted, or refused by one of the three
+abbrev Ruled : Verdict → Type 0
+Ruled v = (v ≡ Permit) ⊎ ((why : Refusal) × Denial why × (v ≡ Refuse why))
+
+cause-ruled : {config : Config} {tuples : List Tuple} {call : Call} {v : Verdict} → Cause config tuples call v → Ruled v
+cause-ruled permits = inl refl
+cause-ruled denies = inr (refusal 7, denied, refl)
+cause-ruled (repeats s) = inr (refusal 12, second, refl)
+cause-ruled (lacks u) = inr (refusal 13, unborne, refl)
+
+pub verdict-rule : VerdictRule
+verdict-rule config tuples call = cause-ruled (cause config tuples call)
+
+cause-second : {config : Config} {tuples : List Tuple} {call : Call} {v : Verdict} → Cause config tuples call v → v ≡ Refuse (refusal 12) → SecondProposal config tuples call
+cause-second permits h = let z : _≡_ {A = ℕ} 0 1 = cc in absurd (omega arith)
+cause-second denies h = let z : _≡_ {A = ℕ} 0 1 = cc in absurd (omega arith)
+cause-second (repeats s) h = s
+cause-second (lacks u) h = let z : _≡_ {A = ℕ} 0 1 = cc in absurd (omega arith)
+
+cause-unborne : {config : Config} {tuples : List Tuple} {call : Call} {v : Verdict} → Cause config tuples call v → v ≡ Refuse (refusal 13) → Unborne config tuples call
+cause-unborne permits h = let z : _≡_ {A = ℕ} 0 1 = cc in absurd (omega arith)
+cause-unborne denies h = let z : _≡_ {A = ℕ} 0 1 = cc in absurd (omega arith)
+cause-unborne (repeats s) h = let z : _≡_ {A = ℕ} 0 1 = cc in absurd (omega arith)
+cause-unborne (lacks u) h = u
+
+pub second-rule : SecondRule
+unfolding justified outVerdict isOwnProposal isFree
+second-rule config tuples call = (
+  cause-second (cause config tuples call),
+  λ s. let stands = proposed-rules config tuples (roundOf (call .entry)) (processOf (call .entry)) .taken .1 (rw (s .own) (s .stands)) in
+      rw (under-justified config tuples call (s .policy), s .code, s .shape, lt-ltb _ _ (s .in-rounds), eq-eqb _ _ (s .own), s .may, stands),
+)
+
+pub unborne-rule : UnborneRule
+unfolding casVerdict
+unborne-rule config tuples call = (
+  cause-unborne (cause config tuples call),
+  λ u. let entry = call .entry in
+      let none : bears config tuples entry ≡ false =
+      cases (bears config tuples entry)
+      (λ b. absurd (cases (eqb (decidedCode entry) bottom)
+      (λ e. let none = eqb-true _ _ e in u .mark none (bottom-borne config tuples call (u .shaped) none .0 b))
+      (λ e. let some = eqb-false _ _ e in u .offset some (offset-borne config tuples call (u .shaped) some .0 b))))
+      (λ b. b) in
+      rw (under-cas config tuples call (u .policy) (u .code), decision-rule config tuples call .1 (u .shaped), none),
+)
+
+cause-denied : {config : Config} {tuples : List Tuple} {call : Call} {v : Verdict} → Cause config tuples call v → (v ≡ Permit → ⊥) → (SecondProposal config tuples call → ⊥)
+    → (Unborne config tuples call → ⊥) → v ≡ Refuse (refusal 7)
+cause-denied permits forbidden first borne = absurd (forbidden refl)
+cause-denied denies forbidden first borne = refl
+cause-denied (repeats s) forbidden first borne = absurd (first s)
+cause-denied (lacks u) forbidden first borne = absurd (borne u)
+
+pub otherwise-rule : OtherwiseRule
+otherwise-rule config tuples call = (
+  λ h. record {
+    forbidden = λ p. let z : _≡_ {A = ℕ} 0 1 = cc in omega arith;
+    first = λ s. let twelve = second-rule config tuples call .1 s in let z : _≡_ {A = ℕ} 0 1 = cc in omega arith;
+    borne = λ u. let thirteen = unborne-rule config tuples call .1 u in let z : _≡_ {A = ℕ} 0 1 = cc in omega arith;
+  },
+  λ o. cause-denied (cause config tuples call) (o .forbidden) (o .first) (o .borne),
+)

@@ -1,4 +1,4 @@
--- Document 01, "Policies", 2 (Fig. 5), and document 02, 2.1: policies 2 and 3, on the tuples that the space holds. They differ in what may be
+-- Document 01, "Policies", 2 (Fig. 5), and document 02, 2.1 and 2.3: policies 2 and 3, on the tuples that the space holds. They differ in what may be
 -- proposed and decided (`offered`, `decidable`).
 use Prim.Native.Nat.{ℕ, _+_}
 use mathlib.Core.Bool.{Bool, cond, not, _&&_}
@@ -34,7 +34,7 @@ isFree config tuples entry = not (proposed config tuples Any (roundOf entry) (pr
 
 unfoldable pub outVerdict : Config → List Tuple → Call → Verdict
 outVerdict config tuples call =
-    demand (isOwnProposal config call) (refusal 7) (demand (isFree config tuples (call .entry)) (refusal 7) Permit)
+    demand (isOwnProposal config call) (refusal 7) (demand (isFree config tuples (call .entry)) (refusal 12) Permit)
 
 -- ---- cas
 
@@ -58,7 +58,7 @@ bears config tuples entry =
 
 unfoldable pub casVerdict : Config → List Tuple → Call → Verdict
 casVerdict config tuples call =
-    demand (isDecisionCall config call) (refusal 7) (demand (bears config tuples (call .entry)) (refusal 7) Permit)
+    demand (isDecisionCall config call) (refusal 7) (demand (bears config tuples (call .entry)) (refusal 13) Permit)
 
 -- ---- by the call
 

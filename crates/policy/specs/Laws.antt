@@ -20,15 +20,22 @@ use Rattle.tuple.specs.declared.field.Tuple.{Tuple}
 use Rattle.tuple.specs.declared.field.Call.{Call}
 use Rattle.tuple.specs.Fields.{out, rdp, inp, cas}
 use Rattle.tuple.specs.Offsets.{bottom}
+use Rattle.tuple.specs.declared.refusal.Refusal.{Refusal}
 use Rattle.tuple.specs.Refusals.{refusal}
 
 -- ---- every policy
 
--- a call is permitted or denied, which is 7
+-- the refusals that say that the policy doesn't permit a call
+pub data Denial : Refusal → Type 0 where
+  denied : Denial (refusal 7)
+  second : Denial (refusal 12)
+  unborne : Denial (refusal 13)
+
+-- a call is permitted or refused by one of these
 abbrev pub VerdictRule : Type 0
 VerdictRule =
     (config : Config) (tuples : List Tuple) (call : Call)
-    → (verdictOn config tuples call ≡ Permit) ⊎ (verdictOn config tuples call ≡ Refuse (refusal 7))
+    → (verdictOn config tuples call ≡ Permit) ⊎ ((why : Refusal) × Denial why × (verdictOn config tuples call ≡ Refuse why))
 
 -- on a space whose configuration or count is out of bounds every call is refused 1
 abbrev pub BoundedRule : Type 0
@@ -129,3 +136,45 @@ CasChoiceRule =
     → call .code ≡ cas
     → (decidedCode (call .entry) ≡ bottom) ⊎ (offered config (decidedCode (call .entry)) ≡ false)
     → verdictOn config tuples call ≡ Refuse (refusal 7)
+
+-- ---- why a call is not permitted
+
+-- 12: an out of policy 2 or 3, right in its shape, its round, its own process and its offset, where a tuple (word 1, its round, its process, some
+-- offset or bottom) stands already
+pub record SecondProposal (config : Config) (tuples : List Tuple) (call : Call) : Type 0 where
+  pub policy : hasProposals config ≡ true
+  pub code : call .code ≡ out
+  pub shape : isProposal (call .entry) ≡ true
+  pub in-rounds : roundOf (call .entry) < rounds
+  pub own : processOf (call .entry) ≡ call .process
+  pub may : offered config (proposedCode (call .entry)) ≡ true
+  pub stands : Placed tuples (roundOf (call .entry)) (call .process)
+
+abbrev pub SecondRule : Type 0
+SecondRule =
+    (config : Config) (tuples : List Tuple) (call : Call)
+    → (verdictOn config tuples call ≡ Refuse (refusal 12)) ↔ SecondProposal config tuples call
+
+-- 13: a cas of policy 2 or 3, right in both shapes and round, with its set in 1 to n and of what may be decided, whose set doesn't bear its offset
+pub record Unborne (config : Config) (tuples : List Tuple) (call : Call) : Type 0 where
+  pub policy : hasProposals config ≡ true
+  pub code : call .code ≡ cas
+  pub shaped : DecisionCall config call
+  pub offset : (decidedCode (call .entry) ≡ bottom → ⊥) → BearsOffset config tuples (call .entry) → ⊥
+  pub mark : decidedCode (call .entry) ≡ bottom → BearsBottom config tuples (call .entry) → ⊥
+
+abbrev pub UnborneRule : Type 0
+UnborneRule =
+    (config : Config) (tuples : List Tuple) (call : Call)
+    → (verdictOn config tuples call ≡ Refuse (refusal 13)) ↔ Unborne config tuples call
+
+-- 7: all else that is not permitted
+pub record Otherwise (config : Config) (tuples : List Tuple) (call : Call) : Type 0 where
+  pub forbidden : verdictOn config tuples call ≡ Permit → ⊥
+  pub first : SecondProposal config tuples call → ⊥
+  pub borne : Unborne config tuples call → ⊥
+
+abbrev pub OtherwiseRule : Type 0
+OtherwiseRule =
+    (config : Config) (tuples : List Tuple) (call : Call)
+    → (verdictOn config tuples call ≡ Refuse (refusal 7)) ↔ Otherwise config tuples call

@@ -58,7 +58,7 @@ fn out_verdict(space: Space, call: Call) -> Verdict
         return Verdict::Refuse(Refusal::Denied);
     }
     if !is_free(space, entry) {
-        return Verdict::Refuse(Refusal::Denied);
+        return Verdict::Refuse(Refusal::SecondProposal);
     }
     Verdict::Permit
 }
@@ -101,7 +101,7 @@ fn cas_verdict(space: Space, call: Call) -> Verdict
         return Verdict::Refuse(Refusal::Denied);
     }
     if !bears(space, entry) {
-        return Verdict::Refuse(Refusal::Denied);
+        return Verdict::Refuse(Refusal::Unborne);
     }
     Verdict::Permit
 }

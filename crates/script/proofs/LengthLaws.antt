@@ -147,7 +147,7 @@ module _ (space : Space) (call : Call) where
   steps-short : {after : Applied} → Steps space call after → length (replyText (after .reply)) ≤ 11 + 13 * asked call
   unfolding outcomeText Short
   steps-short (Steps.refuses why low) = omega (arith, refusal-most why)
-  steps-short (Steps.denies d) = omega (arith, refusal-most (refusal 7))
+  steps-short (Steps.denies {why} d) = omega (arith, refusal-most why)
   steps-short (Steps.obeys formed sound known p) = effect-short (held space) call (held-lawful space formed .entries) sound
 
 -- ---- lines

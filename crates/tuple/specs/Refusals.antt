@@ -1,9 +1,9 @@
--- Document 01, "What is returned, and for what": the number of each refusal, and the refusal of each number.
+-- Document 01, "What is returned, and for what", and document 02, 2.3: the number of each refusal, and the refusal of each number.
 use Prim.Native.Nat.{ℕ}
 use mathlib.Core.Bool.{cond}
 use lib.Dec.{eqb}
 use Rattle.tuple.specs.declared.refusal.Refusal.{Refusal}
-use Rattle.tuple.specs.declared.refusal.Refusal.the-variants.{Unsound, Cut, Beyond, Unknown, Misshapen, Stranger, Denied, Full, LongScript, NoRoom, Unfit}
+use Rattle.tuple.specs.declared.refusal.Refusal.the-variants.{Unsound, Cut, Beyond, Unknown, Misshapen, Stranger, Denied, Full, LongScript, NoRoom, Unfit, SecondProposal, Unborne}
 
 abbrev pub numberOf : Refusal → ℕ
 numberOf Unsound = 1
@@ -17,6 +17,8 @@ numberOf Full = 8
 numberOf LongScript = 9
 numberOf NoRoom = 10
 numberOf Unfit = 11
+numberOf SecondProposal = 12
+numberOf Unborne = 13
 
 -- the definitions name a refusal by its number; what is no number of one is taken for the last
 abbrev pub refusal : ℕ → Refusal
@@ -31,4 +33,6 @@ refusal number =
     (cond (eqb number 8) Full
     (cond (eqb number 9) LongScript
     (cond (eqb number 10) NoRoom
-    Unfit)))))))))
+    (cond (eqb number 11) Unfit
+    (cond (eqb number 12) SecondProposal
+    Unborne)))))))))))

@@ -1,9 +1,9 @@
-// Why something is refused, by 01's numbers.
+// Why something is refused, by the numbers of documents 01 and 02.
 ghost use mathlib.Core.Path.{_≡_};
 ghost use Rattle.tuple.specs.Refusals.{numberOf};
 
 pub enum Refusal {
-    // 1: a configuration that is not sound, starting a process under a policy other than 2, or a space or process state that is
+    // 1: a configuration that is not sound, starting a process under a policy other than 2 and 3, or a space or process state that is
     // not well formed.
     Unsound,
     // 2: the bytes end inside a number or record.
@@ -17,7 +17,7 @@ pub enum Refusal {
     Misshapen,
     // 6: process 0, or one above n.
     Stranger,
-    // 7: the policy doesn't permit the call.
+    // 7: the policy doesn't permit the call, for another cause than 12 and 13.
     Denied,
     // 8: no place for another tuple.
     Full,
@@ -27,6 +27,10 @@ pub enum Refusal {
     NoRoom,
     // 11: a reply that doesn't fit the process's state.
     Unfit,
+    // 12: a second proposal of a process in a round.
+    SecondProposal,
+    // 13: a set that doesn't bear its offset.
+    Unborne,
 }
 
 impl Refusal {
@@ -46,6 +50,8 @@ impl Refusal {
             Refusal::LongScript => 9,
             Refusal::NoRoom => 10,
             Refusal::Unfit => 11,
+            Refusal::SecondProposal => 12,
+            Refusal::Unborne => 13,
         }
     }
 }

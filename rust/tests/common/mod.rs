@@ -3,6 +3,8 @@
 
 #![allow(dead_code)]
 
+pub mod denials;
+
 use reference::fields::{MOST_FIELDS, MOST_SEATS};
 use reference::policy::STRONG;
 use reference::records::{read_record, record_of, write_record};
@@ -11,6 +13,9 @@ use reference::{flat, sys};
 use reference::{
     Answer, AnswerKind, Board, Call, Config, Field, Kind, Offset, Phase, Refusal, Seat, Step, Tuple,
 };
+
+/// How many numbers an answer is counted under: 0 for those obeyed, then each refusal's.
+pub const ANSWERS: usize = Refusal::Unborne as usize + 1;
 
 /// A small generator of numbers (xorshift). `SEED` in the environment changes all of them.
 pub struct Dice(u64);
@@ -303,6 +308,14 @@ pub fn compare_numbers(process: sys::Process, reply: sys::Reply, expected: sys::
 /// The record of a call that is known to be sound.
 pub fn record(call: &Call) -> Vec<u8> {
     record_of(call).expect("a sound call")
+}
+
+/// The number of the answer's refusal, 0 if it was obeyed.
+pub fn refusal_of(answer: &Answer) -> usize {
+    match answer.kind {
+        AnswerKind::Refused(refusal) => refusal.number().into(),
+        _ => 0,
+    }
 }
 
 pub fn refused(answer: &Answer) -> bool {

@@ -1,4 +1,4 @@
-//! The shared offset board of document 01 with requests 2.1 to 2.3 of document
+//! The shared offset board of document 01 with requests 2.1 to 2.4 of document
 //! 02, read independently and written plainly: safe Rust, std only. Records and
 //! matching lie below the board and policies, which lie below the seat
 //! procedure and the program.
@@ -24,6 +24,8 @@ pub mod seat;
 pub mod text;
 
 pub mod script;
+
+pub mod dump;
 
 pub mod rounds;
 

@@ -1,4 +1,5 @@
-//! The numbered refusals (01, "What is returned, and for what", and 02, 2.3).
+//! The numbered refusals (01, "What is returned, and for what", and 02, 2.3 and
+//! 2.4).
 
 use std::fmt;
 
@@ -32,6 +33,8 @@ pub enum Refusal {
     Second = 12,
     /// In the place of 7: the set of a decision does not bear its offset.
     Unborne = 13,
+    /// No script at all ends in the board that is to be written back.
+    Unreached = 14,
 }
 
 impl Refusal {

@@ -115,6 +115,7 @@ extern "C" {
     fn board_resume(process: Process, reply: Reply) -> Step;
     fn board_read(bytes: *const u8, length: usize, at: usize) -> Read;
     fn board_write(call: Call, buffer: *mut u8, room: usize) -> u64;
+    fn board_dump(space: Space, buffer: *mut u8, room: usize) -> u64;
 }
 
 /// A length, or a refusal's number.
@@ -169,4 +170,10 @@ pub fn read(bytes: &[u8], at: usize) -> Read {
 pub fn write(call: Call, buffer: &mut [u8]) -> Result<usize, u8> {
     // Safety: the slice lives through the call.
     length(unsafe { board_write(call, buffer.as_mut_ptr(), buffer.len()) })
+}
+
+/// Puts a script whose run ends in the space at the start of the buffer.
+pub fn dump(space: Space, buffer: &mut [u8]) -> Result<usize, u8> {
+    // Safety: the slice lives through the call.
+    length(unsafe { board_dump(space, buffer.as_mut_ptr(), buffer.len()) })
 }

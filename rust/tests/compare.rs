@@ -4,10 +4,13 @@
 mod common;
 
 use common::denials::{Cause, Denials};
+use common::dumps::{board_with, near_miss, Dumps};
+use common::reached::{weak_decision, Flaw};
 use common::*;
 use reference::board::MOST_TUPLES;
-use reference::fields::MOST_SEATS;
-use reference::policy::{DEFAULT, LAST_ROUND, STRONG};
+use reference::dump::LONGEST_DUMP;
+use reference::fields::{MOST_FIELDS, MOST_SEATS};
+use reference::policy::{BARE, DEFAULT, LAST_ROUND, STRONG, WEAK};
 use reference::records::record_of;
 use reference::{flat, sys};
 use reference::{Answer, AnswerKind, Board, Call, Config, Field, Kind, Offset, Phase, Refusal, Seat, Tuple};
@@ -236,6 +239,46 @@ fn aimed_call(dice: &mut Dice, board: &Board) -> Call {
     }
 }
 
+/// A board as no run need make it, at times not well formed.
+fn odd_board(dice: &mut Dice) -> Board {
+    let config = if dice.one_in(8) {
+        odd_config(dice)
+    } else {
+        let (n, policy) = (1 + dice.below(MOST_SEATS), dice.pick(&[0, 1, 2, 2, 2, 3, 3, 3]));
+        config_of(dice, n, policy)
+    };
+    let mut board = Board { config, count: 0, tuples: [Tuple::BLANK; MOST_TUPLES] };
+    let held = match dice.below(6) {
+        0 => MOST_TUPLES,
+        1 => MOST_TUPLES - 1,
+        2 => dice.below(MOST_TUPLES as u64 + 1) as usize,
+        _ => dice.below(24) as usize,
+    };
+    for place in 0..held {
+        board.tuples[place] = odd_tuple(dice, &config);
+    }
+    board.count = held;
+    // What is not well formed: a count that is not the tuples', a dirty place, a field out of range.
+    if dice.one_in(5) {
+        match dice.below(4) {
+            0 => {
+                let counts = [0, 1, MOST_TUPLES - 1, MOST_TUPLES, MOST_TUPLES + 1, 255, usize::MAX];
+                board.count = dice.pick(&counts);
+            }
+            1 => {
+                let (place, part) = (dice.below(MOST_TUPLES as u64) as usize, dice.below(TUPLE_PARTS));
+                spoil_tuple(dice, &mut board.tuples[place], part);
+            }
+            2 => {
+                let (place, part) = (dice.below(held.max(1) as u64) as usize, dice.below(TUPLE_PARTS));
+                spoil_tuple(dice, &mut board.tuples[place], part);
+            }
+            _ => board.tuples[MOST_TUPLES - 1].fields[5].value = 1,
+        }
+    }
+    board
+}
+
 #[test]
 fn boards_that_no_run_makes() {
     let mut dice = Dice::new(4);
@@ -244,49 +287,16 @@ fn boards_that_no_run_makes() {
     // Decisions that are inserted or held under policies 2 and 3.
     let mut decisions = [0usize; 2];
     for _ in 0..30_000 {
-        let config = if dice.one_in(8) {
-            odd_config(&mut dice)
-        } else {
-            let (n, policy) = (1 + dice.below(MOST_SEATS), dice.pick(&[0, 1, 2, 2, 2, 3, 3, 3]));
-            config_of(&mut dice, n, policy)
-        };
-        let mut board = Board { config, count: 0, tuples: [Tuple::BLANK; MOST_TUPLES] };
-        let held = match dice.below(6) {
-            0 => MOST_TUPLES,
-            1 => MOST_TUPLES - 1,
-            2 => dice.below(MOST_TUPLES as u64 + 1) as usize,
-            _ => dice.below(24) as usize,
-        };
-        for place in 0..held {
-            board.tuples[place] = odd_tuple(&mut dice, &config);
-        }
-        board.count = held;
-        // What is not well formed: a count that is not the tuples', a dirty place, a field out of range.
-        if dice.one_in(5) {
-            match dice.below(4) {
-                0 => {
-                    let counts = [0, 1, MOST_TUPLES - 1, MOST_TUPLES, MOST_TUPLES + 1, 255, usize::MAX];
-                    board.count = dice.pick(&counts);
-                }
-                1 => {
-                    let (place, part) = (dice.below(MOST_TUPLES as u64) as usize, dice.below(TUPLE_PARTS));
-                    spoil_tuple(&mut dice, &mut board.tuples[place], part);
-                }
-                2 => {
-                    let (place, part) = (dice.below(held.max(1) as u64) as usize, dice.below(TUPLE_PARTS));
-                    spoil_tuple(&mut dice, &mut board.tuples[place], part);
-                }
-                _ => board.tuples[MOST_TUPLES - 1].fields[5].value = 1,
-            }
-        }
+        let mut board = odd_board(&mut dice);
+        let policy = board.config.policy;
         for _ in 0..2 {
             let call = aimed_call(&mut dice, &board);
             let before = board.clone();
             let answer = compare_call(&mut board, &call);
             denials.note(&before, &call, &answer);
             outcomes[refusal_of(&answer)] += 1;
-            if matches!(answer.kind, AnswerKind::Inserted | AnswerKind::Held) && config.policy >= DEFAULT {
-                decisions[usize::from(config.policy == STRONG)] += 1;
+            if matches!(answer.kind, AnswerKind::Inserted | AnswerKind::Held) && policy >= DEFAULT {
+                decisions[usize::from(policy == STRONG)] += 1;
             }
             inputs += 1;
         }
@@ -430,7 +440,8 @@ fn denials_and_their_causes() {
 /// How many tuples the boards hold that are then made dirty.
 const HELD: [usize; 6] = [0, 1, 2, 64, MOST_TUPLES - 1, MOST_TUPLES];
 
-/// Boards that are well formed but for one number: whatever the call, it is refused 1, and the board comes back as it was.
+/// Boards that are well formed but for one number: whatever the call, it is refused 1, and the board comes back as it was. Nor are they
+/// written back as scripts, whatever the buffer.
 #[test]
 fn boards_with_dirty_places() {
     let mut dice = Dice::new(12);
@@ -444,6 +455,8 @@ fn boards_with_dirty_places() {
         let before = board.clone();
         assert_eq!(compare_call(&mut board, &call), Answer::from(Refusal::Unsound), "{call:?} on {before:?}");
         assert!(board == before, "a refused call changed the board");
+        let room = dice.pick(&[0, 3, LONGEST_DUMP]);
+        assert_eq!(compare_dump(&board, &vec![0xA5; room]), Err(Refusal::Unsound), "{board:?}");
         inputs += 1;
     };
     for (policy, held) in (0..=3).flat_map(|policy| HELD.map(|held| (policy, held))) {
@@ -474,6 +487,147 @@ fn boards_with_dirty_places() {
         }
     }
     count("calls on boards with one dirty number", inputs, "each refused 1, the board as it was".into());
+    count("such boards written back", inputs, "each refused 1".into());
+}
+
+/// A tuple that a run may well append to this board, seldom one that none can.
+fn next_tuple(dice: &mut Dice, board: &Board) -> Tuple {
+    let Config { n, policy, k, .. } = board.config;
+    let round = if dice.one_in(30) { LAST_ROUND + 1 } else { dice.pick(&[0, 0, 1, LAST_ROUND]) };
+    let offset = if dice.one_in(20) { no_choice(dice, k) } else { likely_offset(dice, &board.config) };
+    match policy {
+        _ if dice.one_in(40) => odd_tuple(dice, &board.config),
+        WEAK => weak_decision(dice.below(LAST_ROUND + 1).max(round), offset),
+        _ => match ripe(board, round) {
+            Some(ripe) if dice.one_in(2) => next_decision(dice, board, round, ripe),
+            None if dice.one_in(20) => next_decision(dice, board, round, offset),
+            _ => {
+                let proposed = bearers(board, round, Offset::MARK);
+                let free: Vec<u64> = (1..=n).filter(|seat| proposed >> (seat - 1) & 1 == 0).collect();
+                let any = free.is_empty() || dice.one_in(10);
+                let seat = if any { dice.below(n + 2) } else { dice.pick(&free) };
+                Tuple::proposal(round, seat, offset)
+            }
+        },
+    }
+}
+
+/// What may be decided in a round not yet decided: an offset that t + 1 seats have proposed, or the mark.
+fn ripe(board: &Board, round: u64) -> Option<u64> {
+    let Config { n, t, policy, .. } = board.config;
+    if board.held().iter().any(|held| Tuple::decision_template(round).matches(held)) {
+        return None;
+    }
+    let seats = |offset| u64::from(bearers(board, round, offset).count_ones());
+    let offsets = board.held().iter().filter_map(Tuple::as_proposal).map(|(_, _, offset)| offset);
+    let crowded = offsets.filter(|offset| *offset != Offset::MARK).find(|offset| seats(*offset) > t);
+    crowded.or((policy == DEFAULT && seats(Offset::MARK) >= n - t).then_some(Offset::MARK))
+}
+
+/// A decision with those that bear it; at times of the mark or another offset, or with one seat more or fewer.
+fn next_decision(dice: &mut Dice, board: &Board, round: u64, offset: u64) -> Tuple {
+    let offset = match dice.below(8) {
+        0 => no_choice(dice, board.config.k),
+        1 | 2 if board.config.policy == DEFAULT => Offset::MARK,
+        _ => offset,
+    };
+    let other = if dice.one_in(6) { 1 << dice.below(board.config.n + 1) } else { 0 };
+    Tuple::decision(round, offset, bearers(board, round, offset) ^ other)
+}
+
+/// A board of a few tuples.
+fn small_board(dice: &mut Dice) -> Board {
+    let (n, policy) = (dice.pick(&[1, 2, 3, 4, 4, 4, 5, 7]), dice.below(STRONG + 1));
+    let mut board = Board::fresh(config_of(dice, n, policy)).expect("a sound set-up");
+    for _ in 0..dice.below(11) {
+        board.tuples[board.count] = next_tuple(dice, &board);
+        board.count += 1;
+    }
+    board
+}
+
+/// Boards written back as scripts, whether a run makes them or not.
+fn written_back(kind: &str, boards: usize, mut next: impl FnMut() -> Board) -> Dumps {
+    let mut dumps = Dumps::default();
+    for _ in 0..boards {
+        _ = dumps.note(&next());
+    }
+    count(kind, dumps.boards(), String::new());
+    dumps.print();
+    dumps
+}
+
+#[test]
+fn small_boards_written_back() {
+    let mut dice = Dice::new(15);
+    let dumps = written_back("small boards written back, and boards beside them", 16_000, || {
+        let board = small_board(&mut dice);
+        if dice.one_in(2) {
+            near_miss(&mut dice, &board)
+        } else {
+            board
+        }
+    });
+    for policy in [BARE, WEAK, DEFAULT, STRONG] {
+        dumps.assert_came(policy, 25);
+    }
+    dumps.assert_each(WEAK, &Flaw::UNDER_1, 25);
+    dumps.assert_each(DEFAULT, &Flaw::UNDER_2_AND_3, 5);
+    dumps.assert_each(DEFAULT, &Flaw::UNDER_2, 5);
+    dumps.assert_each(STRONG, &Flaw::UNDER_2_AND_3, 5);
+    dumps.assert_each(STRONG, &Flaw::UNDER_3, 5);
+}
+
+#[test]
+fn boards_that_no_run_makes_written_back() {
+    let mut dice = Dice::new(16);
+    let dumps = written_back("boards that no run makes written back", 4_000, || odd_board(&mut dice));
+    for policy in [BARE, WEAK, DEFAULT, STRONG] {
+        dumps.assert_came(policy, 1);
+    }
+    let dumps = written_back("boards of a round written back", 3_000, || {
+        let round = dice.pick(&[0, 1, 6, 7, 8]);
+        let board = board_of_a_round(&mut dice, round);
+        if dice.one_in(2) {
+            near_miss(&mut dice, &board)
+        } else {
+            board
+        }
+    });
+    dumps.assert_came(DEFAULT, 10);
+    dumps.assert_came(STRONG, 10);
+}
+
+/// The worked script's board into every buffer up to its script's length and beyond, and the longest script.
+#[test]
+fn the_worked_board_and_the_longest_script() {
+    let proposal = |seat, offset| Tuple::proposal(0, seat, offset);
+    let tuples = [proposal(1, 0x50), proposal(2, 0x51), proposal(3, 0x50), Tuple::decision(0, 0x50, 5)];
+    let worked = board_with(four_seats(DEFAULT), &tuples);
+    let mut dumps = Dumps::default();
+    let script = dumps.note(&worked).expect("a board that a run makes");
+    let records = [
+        &[0x04, 0x01, 0x02][..],
+        &[0x01, 0x01, 0x04, 0x04, 0x01, 0x08, 0x00, 0x08, 0x01, 0x0C, 0x50],
+        &[0x02, 0x01, 0x04, 0x04, 0x01, 0x08, 0x00, 0x08, 0x02, 0x0C, 0x51],
+        &[0x03, 0x01, 0x04, 0x04, 0x01, 0x08, 0x00, 0x08, 0x03, 0x0C, 0x50],
+        &[0x01, 0x04, 0x04, 0x04, 0x02, 0x08, 0x00, 0x0E, 0x11],
+        &[0x04, 0x04, 0x02, 0x08, 0x00, 0x0C, 0x50, 0x10, 0x05],
+    ]
+    .concat();
+    assert_eq!((script.len(), &script), (54, &records));
+    for room in 0..=script.len() + 9 {
+        let expected = if room < script.len() { Err(Refusal::Buffer) } else { Ok(records.clone()) };
+        assert_eq!(compare_dump(&worked, &vec![0xA5; room]), expected);
+    }
+    for value in [(1 << 28) - 1, 1 << 28, Kind::Count.last()] {
+        let counts = Tuple::of(&[Field::given(Kind::Count, value); MOST_FIELDS]);
+        let board = board_with(four_seats(BARE), &[counts; MOST_TUPLES]);
+        let length = dumps.note(&board).expect("every board is reached").len();
+        assert_eq!(length == LONGEST_DUMP, value >= 1 << 28, "{length}");
+    }
+    assert_eq!(LONGEST_DUMP, 4_995);
+    count("boards written back", dumps.boards(), "the worked script's and the longest".into());
 }
 
 /// Offsets at the bounds of their range and of the choices, and beyond.
@@ -646,6 +800,7 @@ fn answer(dice: &mut Dice, seat: &Seat) -> Answer {
             AnswerKind::Refused(Refusal::Denied),
             AnswerKind::Refused(Refusal::Second),
             AnswerKind::Refused(Refusal::Unborne),
+            AnswerKind::Refused(Refusal::Unreached),
             AnswerKind::Refused(Refusal::Unfit),
         ])),
         (Phase::Proposing, _) => Answer::DONE,
@@ -720,11 +875,11 @@ fn numbers_that_are_no_case() {
             match dice.below(2) {
                 0 => {
                     (reply.outcome, reply.refusal) =
-                        (dice.pick(&[5, 6, 7, 128, 255]), dice.pick(&[0, 1, 7, 11, 12, 13, 14, 255]))
+                        (dice.pick(&[5, 6, 7, 128, 255]), dice.pick(&[0, 1, 7, 11, 12, 13, 14, 15, 255]))
                 }
                 _ => {
                     (reply.outcome, reply.refusal) =
-                        (dice.below(6) as u8, dice.pick(&[1, 2, 7, 11, 12, 13, 14, 255]))
+                        (dice.below(6) as u8, dice.pick(&[1, 2, 7, 11, 12, 13, 14, 15, 255]))
                 }
             }
             let unknown = Answer { kind: AnswerKind::Refused(Refusal::Unfit), tuple: answer.tuple };

@@ -1,15 +1,17 @@
 //! Whole runs by both, call by call and as scripts: following seats, driven by the procedure, among strays that aim at the decision.
 //! On each run under policies 2 and 3 demand 3's four properties are checked: agreement, validity, unanimity, a decision within n + 1
-//! calls. Under policy 3 every decision is a choice.
+//! calls. Under policy 3 every decision is a choice. Every board of the runs is written back as a script, and at their ends boards beside
+//! the last one are too.
 
 mod common;
 
 use std::collections::{BTreeMap, HashMap};
 
 use common::denials::{Cause, Denials};
+use common::dumps::{near_miss, Dumps};
 use common::*;
 use reference::fields::MOST_SEATS;
-use reference::policy::{DEFAULT, STRONG};
+use reference::policy::{BARE, DEFAULT, STRONG, WEAK};
 use reference::records::record_of;
 use reference::{
     Answer, AnswerKind, Board, Call, Config, Field, Kind, Offset, Phase, Refusal, Seat, Step, Tuple,
@@ -39,6 +41,25 @@ struct Counts {
     raced: usize,
     refused: usize,
     denials: Denials,
+    /// The runs' boards written back, and boards beside them.
+    dumps: Dumps,
+    misses: Dumps,
+}
+
+impl Counts {
+    fn print_dumps(&self) {
+        println!("compared {:>7} boards of these runs written back", self.dumps.boards());
+        self.dumps.print();
+        println!("compared {:>7} boards beside these written back", self.misses.boards());
+        self.misses.print();
+    }
+
+    /// So many boards of runs, and of those beside them so many of each answer, came at least under this policy.
+    fn assert_dumps(&self, policy: u64, written: usize, beside: usize) {
+        let came = self.dumps.under(policy);
+        assert!(came.written >= written, "{came:?}");
+        self.misses.assert_came(policy, beside);
+    }
 }
 
 struct Run {
@@ -102,7 +123,23 @@ impl Run {
         if self.config.policy >= DEFAULT {
             self.note(call, &answer);
         }
+        // Every board of the run: this call left another one.
+        if self.board.count != before.count {
+            self.dump(counts);
+        }
         answer
+    }
+
+    /// Writes the board back as a script, by both.
+    fn dump(&self, counts: &mut Counts) {
+        counts.dumps.note(&self.board).expect("a script ends in a run's board");
+    }
+
+    /// At the end of the run: boards beside its last one.
+    fn dump_beside(&self, dice: &mut Dice, counts: &mut Counts) {
+        for _ in 0..5 {
+            _ = counts.misses.note(&near_miss(dice, &self.board));
+        }
     }
 
     fn note(&mut self, call: &Call, answer: &Answer) {
@@ -311,6 +348,7 @@ fn run_of_seats(dice: &mut Dice, policy: u64, counts: &mut Counts) {
     }
     run.check(|seat| followers.contains_key(&seat), counts);
     run.script(dice, counts);
+    run.dump_beside(dice, counts);
 }
 
 /// Policies 0 and 1: calls that meet each other, on few values.
@@ -353,6 +391,7 @@ fn run_of_others(dice: &mut Dice, counts: &mut Counts) {
         run.call(&call, counts);
     }
     run.script(dice, counts);
+    run.dump_beside(dice, counts);
 }
 
 /// So many runs under a policy, and what was counted in them.
@@ -368,6 +407,7 @@ fn runs_under(policy: u64, seed: u64, runs: usize) -> Counts {
     println!("         {decided:>7} rounds decided: {marks} with the mark, {raced} by a stray's cas");
     println!("compared {handings:>7} answers handed to following seats");
     println!("compared {scripts:>7} scripts of these runs, whole, damaged, into short buffers");
+    counts.print_dumps();
     counts
 }
 
@@ -387,7 +427,9 @@ const IN_RUNS: [Cause; 10] = [
 
 #[test]
 fn runs_under_policy_2() {
-    let Counts { decided, marks, raced, denials, .. } = runs_under(DEFAULT, 11, 160);
+    let counts = runs_under(DEFAULT, 11, 160);
+    counts.assert_dumps(DEFAULT, 300, 5);
+    let Counts { decided, marks, raced, denials, .. } = counts;
     assert!(decided > 300 && marks > 30 && raced > 30, "{decided} {marks} {raced}");
     denials.assert_each(DEFAULT, &IN_RUNS, 10);
     let marks = [Cause::MarkNoMember, Cause::MarkTooFew, Cause::MarkSilent, Cause::MarkCrowded];
@@ -396,7 +438,9 @@ fn runs_under_policy_2() {
 
 #[test]
 fn runs_under_policy_3() {
-    let Counts { decided, marks, raced, denials, .. } = runs_under(STRONG, 13, 80);
+    let counts = runs_under(STRONG, 13, 80);
+    counts.assert_dumps(STRONG, 150, 5);
+    let Counts { decided, marks, raced, denials, .. } = counts;
     assert!(decided > 150 && marks == 0 && raced > 15, "{decided} {marks} {raced}");
     denials.assert_each(STRONG, &IN_RUNS, 3);
     denials.assert_each(STRONG, &Cause::STRONG_ONLY, 5);
@@ -412,4 +456,7 @@ fn runs_under_policies_0_and_1() {
     let Counts { calls, scripts, refused, .. } = counts;
     println!("compared {calls:>7} calls of 200 runs under policies 0 and 1: {refused} refused");
     println!("compared {scripts:>7} scripts of these runs");
+    counts.print_dumps();
+    counts.assert_dumps(BARE, 100, 5);
+    counts.assert_dumps(WEAK, 100, 5);
 }

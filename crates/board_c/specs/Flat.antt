@@ -12,6 +12,7 @@ use Rattle.board_c.specs.declared.state.FlatProcess.{FlatProcess}
 use Rattle.board_c.specs.declared.state.FlatStep.{FlatStep}
 use Rattle.calls.specs.declared.turn.Applied.{Applied}
 use Rattle.calls.specs.Turns.{applied as callApplied}
+use Rattle.dump.specs.Dumps.{writtenOf as dumpWritten}
 use Rattle.process.specs.declared.process.Next.{Next as Coming}
 use Rattle.process.specs.declared.process.Next.the-variants.{Calls, Decides, Refuses}
 use Rattle.process.specs.declared.process.Phase.{Phase}
@@ -242,3 +243,6 @@ readAt s at = flatRead (callAt s at)
 
 abbrev pub written : Call → ℕ → ℕ
 written call room = recordedNumber (writtenOf call room)
+
+abbrev pub dumped : Space → ℕ → ℕ
+dumped space room = recordedNumber (dumpWritten space room)

@@ -1,8 +1,9 @@
-// The library for C and Rust: a whole script, and the space, the process and the record one by one. Structs go by value, and a number
-// stands for each case of an enum.
+// The library for C and Rust: a whole script, the space, the process and the record one by one, and a space back as a script. Structs go by
+// value, and a number stands for each case of an enum.
 ghost use mathlib.Core.Path.{_≡_};
 ghost use lib.ListN.{length};
-ghost use Rattle.board_c.specs.Flat.{scripted, opened, applied as applied·, started as started·, resumed as resumed·, readAt, written};
+ghost use Rattle.board_c.specs.Flat.{scripted, opened, applied as applied·, started as started·, resumed as resumed·, readAt, written, dumped};
+ghost use Rattle.dump.specs.Dumps.{leftOf as dumpLeft};
 ghost use Rattle.record.specs.Writing.{leftOf as recordLeft};
 ghost use Rattle.script.specs.Printing.{leftOf as textLeft};
 
@@ -98,4 +99,14 @@ pub extern "C" fn board_write(call: Call, buffer: &mut [u8]) -> u64
     ensures { λ _. ⌜ now (buffer .exit) ≡ recordLeft call (now (buffer .entry)) ⌝ }
 {
     recorded_number(record::write(call, buffer))
+}
+
+// Puts a script whose run ends in the space at the start of buffer: the script's length, at most 4,995, or 2^32 and the refusal's number: 1 for a
+// space that is not well formed, then 14 for one that no script ends in, then 10 for a buffer that is shorter.
+#[no_mangle]
+pub extern "C" fn board_dump(space: Space, buffer: &mut [u8]) -> u64
+    ensures { λ r. ⌜ r ≡ dumped space (length (now (buffer .entry))) ⌝ }
+    ensures { λ _. ⌜ now (buffer .exit) ≡ dumpLeft space (now (buffer .entry)) ⌝ }
+{
+    recorded_number(dump::write(space, buffer))
 }

@@ -198,6 +198,7 @@ fn refusal_of(number: u8) -> Refusal
         10 => Refusal::NoRoom,
         11 => Refusal::Unfit,
         12 => Refusal::SecondProposal,
-        _ => Refusal::Unborne,
+        13 => Refusal::Unborne,
+        _ => Refusal::Unreached,
     }
 }

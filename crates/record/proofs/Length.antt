@@ -22,11 +22,11 @@ use Rattle.varint.specs.Reading.{largest}
 use Rattle.varint.specs.Writing.{groupsOf, bytesOf, widthOf}
 use Rattle.varint.proofs.WritingLaws.{bytes-last, width-of-largest}
 
-width-one : (value : ℕ) → value < 128 → widthOf value ≡ 1
+pub width-one : (value : ℕ) → value < 128 → widthOf value ≡ 1
 width-one value h = ap length (bytes-last value h)
 
 -- a head of one byte, and a value of at most five
-field-most : {entry : Bool} {field : Field} → SoundField entry field → length (fieldBytes field) ≤ 6
+pub field-most : {entry : Bool} {field : Field} → SoundField entry field → length (fieldBytes field) ≤ 6
 unfolding fieldBytes
 field-most {field = field} sound =
     let known = known-head field (sound .known) in
@@ -37,7 +37,7 @@ field-most {field = field} sound =
     (λ d. omega arith) in
     simp length-append (omega (arith, width-one (headNumber field) (omega arith)))
 
-fields-most : (entry : Bool) (fields : List Field) → fieldsFault entry fields ≡ Absent → length (fieldsBytes fields) ≤ 6 * length fields
+pub fields-most : (entry : Bool) (fields : List Field) → fieldsFault entry fields ≡ Absent → length (fieldsBytes fields) ≤ 6 * length fields
 unfolding fieldsBytes
 fields-most entry [] h = omega arith
 fields-most entry (field ∷ fields) h =
@@ -45,7 +45,7 @@ fields-most entry (field ∷ fields) h =
     simp length-append (omega (arith, field-most (sound .0), fields-most entry fields (sound .1)))
 
 -- a count of one byte, and at most six fields
-tuple-most : (entry : Bool) (tuple : Tuple) → tupleFault entry tuple ≡ Absent → length (tupleBytes tuple) ≤ 37
+pub tuple-most : (entry : Bool) (tuple : Tuple) → tupleFault entry tuple ≡ Absent → length (tupleBytes tuple) ≤ 37
 unfolding tupleBytes
 tuple-most entry tuple h =
     let sound = tuple-sound entry tuple h in

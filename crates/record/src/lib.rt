@@ -12,3 +12,6 @@ pub use reader::ReadTuple;
 pub use reader::read;
 pub use writer::Recorded;
 pub use writer::write;
+
+// The most bytes of a record.
+pub const RECORD_BYTES: usize = 80;

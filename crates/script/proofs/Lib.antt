@@ -1,7 +1,7 @@
 pub mod FeedLaws
 mod LengthLaws
 mod LineLaws
-mod RecordLaws
+pub mod RecordLaws
 pub mod RoomLaws
 pub mod RunLaws
 mod ScriptLaws

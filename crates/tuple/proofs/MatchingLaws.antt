@@ -74,7 +74,7 @@ matchedIn tuples found = matched found (foundTuple tuples found)
 getD-inside : (tuples : List Tuple) (i : ℕ) (one other : Tuple) → i < length tuples → getD tuples i one ≡ getD tuples i other
 getD-inside tuples i one other h = head-eq-of-cons-eq (sym (drop-cons tuples i one h) ∙ drop-cons tuples i other h)
 
-held-tuple : (count : ℕ) (tuples : List Tuple) (i : ℕ) (other : Tuple) → i < count → i < length tuples → getD tuples i other ≡ getD (take count tuples) i blankTuple
+pub held-tuple : (count : ℕ) (tuples : List Tuple) (i : ℕ) (other : Tuple) → i < count → i < length tuples → getD tuples i other ≡ getD (take count tuples) i blankTuple
 held-tuple count tuples i other below inside = getD-inside tuples i other blankTuple inside ∙ sym (getD-take count tuples i blankTuple below)
 
 module _ (count : ℕ) (tuples : List Tuple) (template : Tuple) (i : ℕ) (other : Tuple) (passed : Passed count tuples template i) where

@@ -2,7 +2,7 @@
 use mathlib.Core.Path.{refl}
 use Prim.Native.Nat.{zero, suc}
 use native.Mathlib.Omega.{arith}
-use Rattle.tuple.specs.declared.refusal.Refusal.the-variants.{Unsound, Cut, Beyond, Unknown, Misshapen, Stranger, Denied, Full, LongScript, NoRoom, Unfit, SecondProposal, Unborne}
+use Rattle.tuple.specs.declared.refusal.Refusal.the-variants.{Unsound, Cut, Beyond, Unknown, Misshapen, Stranger, Denied, Full, LongScript, NoRoom, Unfit, SecondProposal, Unborne, Unreached}
 use Rattle.tuple.specs.Laws.{Numbered, NumberedBack}
 
 pub numbered : Numbered
@@ -19,6 +19,7 @@ numbered NoRoom = refl
 numbered Unfit = refl
 numbered SecondProposal = refl
 numbered Unborne = refl
+numbered Unreached = refl
 
 pub numbered-back : NumberedBack
 numbered-back zero least most = absurd (omega arith)
@@ -35,4 +36,5 @@ numbered-back (suc (suc (suc (suc (suc (suc (suc (suc (suc (suc zero)))))))))) l
 numbered-back (suc (suc (suc (suc (suc (suc (suc (suc (suc (suc (suc zero))))))))))) least most = refl
 numbered-back (suc (suc (suc (suc (suc (suc (suc (suc (suc (suc (suc (suc zero)))))))))))) least most = refl
 numbered-back (suc (suc (suc (suc (suc (suc (suc (suc (suc (suc (suc (suc (suc zero))))))))))))) least most = refl
-numbered-back (suc (suc (suc (suc (suc (suc (suc (suc (suc (suc (suc (suc (suc (suc n)))))))))))))) least most = absurd (omega arith)
+numbered-back (suc (suc (suc (suc (suc (suc (suc (suc (suc (suc (suc (suc (suc (suc zero)))))))))))))) least most = refl
+numbered-back (suc (suc (suc (suc (suc (suc (suc (suc (suc (suc (suc (suc (suc (suc (suc n))))))))))))))) least most = absurd (omega arith)

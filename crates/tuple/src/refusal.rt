@@ -31,6 +31,8 @@ pub enum Refusal {
     SecondProposal,
     // 13: a set that doesn't bear its offset.
     Unborne,
+    // 14: a space that no script ends in.
+    Unreached,
 }
 
 impl Refusal {
@@ -52,6 +54,7 @@ impl Refusal {
             Refusal::Unfit => 11,
             Refusal::SecondProposal => 12,
             Refusal::Unborne => 13,
+            Refusal::Unreached => 14,
         }
     }
 }

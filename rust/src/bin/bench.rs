@@ -13,6 +13,7 @@ use std::process::{Command, Stdio};
 use std::time::{Duration, Instant};
 
 use reference::board::MOST_TUPLES;
+use reference::dump::{dump_into, LONGEST_DUMP};
 use reference::fields::MOST_SEATS;
 use reference::policy::LAST_ROUND;
 use reference::records::{read_record, record_of};
@@ -168,6 +169,21 @@ fn long_script() -> Vec<u8> {
     bytes
 }
 
+/// A board that eight rounds of fifteen proposals and a decision have filled.
+fn full_board() -> Board {
+    let mut board = Board::fresh(FULL).expect("a sound set-up");
+    for round in 0..=LAST_ROUND {
+        for seat in 1..=MOST_SEATS as u32 {
+            let out = Call::out(seat, Tuple::proposal(round, seat.into(), 81));
+            assert_eq!(board.call(&out), Ok(Answer::DONE));
+        }
+        let cas =
+            Call::cas(1, Tuple::decision_template(round), Tuple::decision(round, 81, (1 << MOST_SEATS) - 1));
+        assert_eq!(board.call(&cas), Ok(Answer::INSERTED));
+    }
+    board
+}
+
 fn run_program(program: &str, input: &str) {
     let input = File::open(input).expect("the script");
     let mut run = Command::new(program);
@@ -187,7 +203,7 @@ fn least(trial: impl Fn(usize) -> bool) -> usize {
 }
 
 /// The functions of the library whose stack is measured; none gives what a thread of Rust needs itself.
-const FUNCTIONS: [&str; 8] = ["none", "read", "write", "start", "resume", "fresh", "apply", "script"];
+const FUNCTIONS: [&str; 9] = ["none", "read", "write", "start", "resume", "fresh", "apply", "script", "dump"];
 
 /// Calls one function of the library on a thread with so many KB of stack; too few end the program.
 fn on_a_thread(function: String, kilobytes: usize) {
@@ -200,18 +216,20 @@ fn on_a_thread(function: String, kilobytes: usize) {
     let cas = Call::cas(1, Tuple::decision_template(0), Tuple::decision(0, 0, 0x7FF));
     let (call, long) = (flat::call(&cas), long_script());
     let mut text = vec![0; 2_000_000];
-    let work = move || match function.as_str() {
-        "read" => assert_eq!(black_box(sys::read(&long, 3)).refusal, 0),
-        "write" => assert!(black_box(sys::write(call, &mut text)).is_ok()),
-        "fresh" => assert_eq!(black_box(sys::fresh(space.config)).refusal, 0),
-        "start" => assert_eq!(black_box(sys::start(space.config, 1, 0, 0, 5)).refusal, 0),
-        "resume" => {
+    // Each in a closure of its own, so that none pays for another's values: what is passed and what comes back stands on the stack too.
+    let work: Box<dyn FnOnce() + Send> = match function.as_str() {
+        "read" => Box::new(move || assert_eq!(sys::read(&long, 3).refusal, 0)),
+        "write" => Box::new(move || assert!(sys::write(call, &mut text).is_ok())),
+        "fresh" => Box::new(move || assert_eq!(sys::fresh(space.config).refusal, 0)),
+        "start" => Box::new(move || assert_eq!(sys::start(space.config, 1, 0, 0, 5).refusal, 0)),
+        "resume" => Box::new(move || {
             let process = sys::start(space.config, 1, 0, 0, 5).process;
-            assert_eq!(black_box(sys::resume(process, sys::Reply::default())).refusal, 0);
-        }
-        "apply" => assert_eq!(black_box(sys::apply(*space, call)).reply.refusal, 0),
-        "script" => assert!(black_box(sys::script(&long, &mut text)).is_ok()),
-        _ => {}
+            assert_eq!(sys::resume(process, sys::Reply::default()).refusal, 0);
+        }),
+        "apply" => Box::new(move || assert_eq!(sys::apply(*space, call).reply.refusal, 0)),
+        "script" => Box::new(move || assert!(sys::script(&long, &mut text).is_ok())),
+        "dump" => Box::new(move || assert!(sys::dump(*space, &mut text).is_ok())),
+        _ => Box::new(|| {}),
     };
     let thread = std::thread::Builder::new().stack_size(kilobytes * 1024).spawn(work).expect("a thread");
     thread.join().expect("the function answers");
@@ -261,12 +279,24 @@ fn main() {
     let plain = || _ = black_box(script::run_into(&long, &mut other));
     line("c  a script of 65,536 bytes, rdp and cas on a full board", medians(21, ours, plain));
 
+    let board = full_board();
+    let space = flat::space(&board);
+    let (mut bytes, mut other) = ([0; LONGEST_DUMP], [0; LONGEST_DUMP]);
+    assert_eq!(sys::dump(space, &mut bytes).ok(), dump_into(&board, &mut other).ok());
+    assert_eq!(bytes, other);
+    let ours = || _ = black_box(sys::dump(space, &mut bytes));
+    let plain = || _ = black_box(dump_into(&board, &mut other));
+    line(
+        &format!("d  a board of {} tuples written back as a script", board.count),
+        medians(101, ours, plain),
+    );
+
     if let [ours, plain] = arguments.as_slice() {
         let path = std::env::temp_dir().join(format!("board-bench-{}", std::process::id()));
         File::create(&path).and_then(|mut file| file.write_all(&long)).expect("a temporary file");
         let name = path.to_str().expect("a plain path");
         let times = medians(21, || run_program(ours, name), || run_program(plain, name));
-        line("d  the same script through the programs", times);
+        line("e  the script through the programs", times);
         stacks(ours, name);
         std::fs::remove_file(&path).expect("the temporary file");
     }

@@ -4,7 +4,10 @@
 #![allow(dead_code)]
 
 pub mod denials;
+pub mod dumps;
+pub mod reached;
 
+use reference::dump::dump_into;
 use reference::fields::{MOST_FIELDS, MOST_SEATS};
 use reference::policy::STRONG;
 use reference::records::{read_record, record_of, write_record};
@@ -14,7 +17,7 @@ use reference::{
     Answer, AnswerKind, Board, Call, Config, Field, Kind, Offset, Phase, Refusal, Seat, Step, Tuple,
 };
 
-/// How many numbers an answer is counted under: 0 for those obeyed, then each refusal's.
+/// How many numbers the answer to a call is counted under: 0 for those obeyed, then each refusal's. 14 is no call's.
 pub const ANSWERS: usize = Refusal::Unborne as usize + 1;
 
 /// A small generator of numbers (xorshift). `SEED` in the environment changes all of them.
@@ -272,6 +275,20 @@ pub fn compare_script(script: &[u8], buffer: &[u8]) -> Result<usize, Refusal> {
     assert_eq!(proved, answer.map_err(Refusal::number), "{script:02X?}");
     assert!(ours == plain, "{script:02X?}");
     answer
+}
+
+/// Writing a board back as a script, by both: the length or refusal and the whole buffer. Gives what the proved function wrote.
+pub fn compare_dump(board: &Board, buffer: &[u8]) -> Result<Vec<u8>, Refusal> {
+    let (mut ours, mut plain) = (buffer.to_vec(), buffer.to_vec());
+    let proved = sys::dump(flat::space(board), &mut ours);
+    let answer = dump_into(board, &mut plain);
+    assert_eq!(proved, answer.map_err(Refusal::number), "{board:?}");
+    assert!(ours == plain, "{board:?}\nproved {ours:02X?}\nplain {plain:02X?}");
+    // Nothing behind the script was changed; of a refused one, nothing at all.
+    let length = answer.unwrap_or(0);
+    assert!(ours[length..] == buffer[length..], "{board:?}\nproved {ours:02X?}");
+    ours.truncate(length);
+    answer.map(|_| ours)
 }
 
 /// Starting a seat, by both. The offset is the mark, or any number.

@@ -1,0 +1,118 @@
+-- What writing a space answers by its tests, and what it leaves in the buffer. From the definitions.
+use mathlib.Core.Path.{_≡_, ap, _∙_}
+use Prim.Native.Nat.{ℕ, _≤_, _<_}
+use native.Mathlib.Omega.{arith}
+use mathlib.Core.Bool.{true, false}
+use mathlib.Core.List.{List, _++_}
+use lib.ListN.{length, drop, length-append, length-drop}
+use lib.Seq.{take-append-seam, drop-append-seam}
+use lib.Dec.{leb}
+use borrow.Author.Tests.{le-leb, lt-leb, leb-true, leb-false}
+use borrow.Table.Steps.{cases}
+use Rattle.dump.specs.Dumps.{dumpBytes, isReached, writtenOf, leftOf}
+use Rattle.dump.specs.Laws.{UnsoundRule, Stored, BufferRules}
+use Rattle.record.specs.declared.writer.Recorded.{Recorded}
+use Rattle.record.specs.declared.writer.Recorded.the-variants.{Length, Unwritten}
+use Rattle.space.specs.declared.space.Space.{Space}
+use Rattle.space.specs.Spaces.{wellFormed}
+use Rattle.tuple.specs.declared.refusal.Refusal.{Refusal}
+use Rattle.tuple.specs.Refusals.{refusal}
+
+-- ---- the answer of each test
+
+module _ (space : Space) (room : ℕ) where
+  pub unsound-answer : wellFormed space ≡ false → writtenOf space room ≡ Unwritten (refusal 1)
+  unfolding writtenOf
+  unsound-answer formed = rw formed
+
+  pub unreached-answer : wellFormed space ≡ true → isReached space ≡ false → writtenOf space room ≡ Unwritten (refusal 14)
+  unfolding writtenOf
+  unreached-answer formed reached = rw (formed, reached)
+
+  pub full-answer : wellFormed space ≡ true → isReached space ≡ true → room < length (dumpBytes space) → writtenOf space room ≡ Unwritten (refusal 10)
+  unfolding writtenOf
+  full-answer formed reached full = rw (formed, reached, lt-leb (length (dumpBytes space)) room full)
+
+  pub whole-answer : wellFormed space ≡ true → isReached space ≡ true → length (dumpBytes space) ≤ room → writtenOf space room ≡ Length (length (dumpBytes space))
+  unfolding writtenOf
+  whole-answer formed reached fits = rw (formed, reached, le-leb (length (dumpBytes space)) room fits)
+
+-- ---- the tests of each answer
+
+pub data Answers (space : Space) (room : ℕ) : Recorded → Type 0 where
+  unsound : wellFormed space ≡ false → Answers space room (Unwritten (refusal 1))
+  unreached : isReached space ≡ false → Answers space room (Unwritten (refusal 14))
+  full : Answers space room (Unwritten (refusal 10))
+  written : wellFormed space ≡ true → isReached space ≡ true → length (dumpBytes space) ≤ room → Answers space room (Length (length (dumpBytes space)))
+
+pub answers : (space : Space) (room : ℕ) → Answers space room (writtenOf space room)
+answers space room =
+    cases (wellFormed space)
+    (λ w. cases (isReached space)
+    (λ r. cases (leb (length (dumpBytes space)) room)
+    (λ f. let fits = leb-true (length (dumpBytes space)) room f in rw (whole-answer space room w r fits) (written w r fits))
+    (λ f. rw (full-answer space room w r (leb-false (length (dumpBytes space)) room f)) full))
+    (λ r. rw (unreached-answer space room w r) (unreached r)))
+    (λ w. rw (unsound-answer space room w) (unsound w))
+
+-- what a length that is answered says
+pub record Fits (space : Space) (room n : ℕ) : Type 0 where
+  pub formed : wellFormed space ≡ true
+  pub reached : isReached space ≡ true
+  pub same : n ≡ length (dumpBytes space)
+  pub inside : n ≤ room
+
+module _ (space : Space) (room : ℕ) where
+  fits-by : {answer : Recorded} → Answers space room answer → (n : ℕ) → answer ≡ Length n → Fits space room n
+  fits-by (unsound w) n e = let z : _≡_ {A = ℕ} 0 1 = cc in absurd (omega arith)
+  fits-by (unreached r) n e = let z : _≡_ {A = ℕ} 0 1 = cc in absurd (omega arith)
+  fits-by full n e = let z : _≡_ {A = ℕ} 0 1 = cc in absurd (omega arith)
+  fits-by (written w r f) n e = let same : n ≡ length (dumpBytes space) = cc in record { formed = w; reached = r; same = same; inside = omega arith }
+
+  pub fits : (n : ℕ) → writtenOf space room ≡ Length n → Fits space room n
+  fits n e = fits-by (answers space room) n e
+
+  refused-by : {answer : Recorded} → Answers space room answer → answer ≡ Unwritten (refusal 14) → isReached space ≡ false
+  refused-by (unsound w) e = let z : _≡_ {A = ℕ} 0 1 = cc in absurd (omega arith)
+  refused-by (unreached r) e = r
+  refused-by full e = let z : _≡_ {A = ℕ} 0 1 = cc in absurd (omega arith)
+  refused-by (written w r f) e = let z : _≡_ {A = ℕ} 0 1 = cc in absurd (omega arith)
+
+  -- 14 comes of a space that is not reached alone
+  pub refused-unreached : writtenOf space room ≡ Unwritten (refusal 14) → isReached space ≡ false
+  refused-unreached e = refused-by (answers space room) e
+
+  unsound-by : {answer : Recorded} → Answers space room answer → answer ≡ Unwritten (refusal 1) → wellFormed space ≡ false
+  unsound-by (unsound w) e = w
+  unsound-by (unreached r) e = let z : _≡_ {A = ℕ} 0 1 = cc in absurd (omega arith)
+  unsound-by full e = let z : _≡_ {A = ℕ} 0 1 = cc in absurd (omega arith)
+  unsound-by (written w r f) e = let z : _≡_ {A = ℕ} 0 1 = cc in absurd (omega arith)
+
+pub unsound-rule : UnsoundRule
+unsound-rule space room = (λ e. unsound-by space room (answers space room) e, unsound-answer space room)
+
+-- ---- the buffer
+
+module _ (space : Space) (buffer : List ℕ) where
+  -- what a length leaves, and a refusal
+  pub left-written : (n : ℕ) → writtenOf space (length buffer) ≡ Length n → leftOf space buffer ≡ dumpBytes space ++ drop n buffer
+  unfolding leftOf
+  left-written n e = rw e
+
+  pub left-refused : (why : Refusal) → writtenOf space (length buffer) ≡ Unwritten why → leftOf space buffer ≡ buffer
+  unfolding leftOf
+  left-refused why e = rw e
+
+  stored : (n : ℕ) → writtenOf space (length buffer) ≡ Length n → Stored space buffer n
+  stored n e =
+      let fit = fits space (length buffer) n e in
+      let bytes = dumpBytes space in
+      let left : leftOf space buffer ≡ bytes ++ drop (length bytes) buffer = left-written n e ∙ ap (λ (k : ℕ). bytes ++ drop k buffer) (fit .same) in
+      record {
+        script = rw (left, fit .same) (take-append-seam bytes (drop (length bytes) buffer));
+        behind = rw (left, fit .same) (drop-append-seam bytes (drop (length bytes) buffer));
+        whole = rw left (simp (length-append, length-drop) (omega (arith, fit .same, fit .inside)));
+      }
+
+pub buffer-rules : BufferRules
+buffer-rules space buffer = record { stored = stored space buffer; kept = left-refused space buffer }

@@ -1,0 +1,171 @@
+-- The most bytes of a script, a buffer that has room for every one, and the longest. From the lengths of records.
+use mathlib.Core.Path.{_≡_, refl, sym, ap, _∙_}
+use Prim.Native.Nat.{ℕ, zero, suc, _+_, _*_, _/_, _≤_, _<_}
+use native.Mathlib.Omega.{arith}
+use native.Mathlib.Nat.{mul-suc}
+use mathlib.Core.Bool.{true, false}
+use mathlib.Core.List.{List, [], _∷_, map, List·Memᴰ, List·Memᴰ·head, List·Memᴰ·tail}
+use lib.ListN.{length, replicate, length-append, length-map}
+use lib.Dec.{eqb}
+use borrow.Author.Tests.{ne-eqb}
+use borrow.Table.Steps.{cases}
+use Rattle.dump.specs.Appending.{callOf, outBy, processOne}
+use Rattle.dump.specs.Dumps.{dumpCalls, dumpBytes, isReached, writtenOf}
+use Rattle.dump.specs.Laws.{LengthMost, AlwaysRoom, Wide, LengthAttained}
+use Rattle.dump.proofs.AnswerLaws.{unreached-answer, whole-answer, fits}
+use Rattle.dump.proofs.LengthLaws.{set-up-bytes, kind-state, next, none-left, out-length}
+use Rattle.dump.proofs.SoundCalls.{dump-most, mapped}
+use Rattle.dump.proofs.UnreachedLaws.{bare-call, bare-reached}
+use Rattle.record.specs.declared.writer.Recorded.the-variants.{Length}
+use Rattle.record.specs.Heads.{headNumber}
+use Rattle.record.specs.Writing.{fieldBytes, tupleBytes, callBytes}
+use Rattle.record.proofs.Length.{width-one}
+use Rattle.record.proofs.WrittenLaws.{bytes-defined, tuple-length}
+use Rattle.script.specs.Scripts.{setUpBytes, recordsBytes}
+use Rattle.space.specs.declared.config.Config.{Config}
+use Rattle.space.specs.Configs.{sound}
+use Rattle.space.specs.Spaces.{spaceOf}
+use Rattle.space.proofs.SpaceRules.{Lawful, held-of, formed-of}
+use Rattle.tuple.specs.declared.field.Field.{Field}
+use Rattle.tuple.specs.declared.field.Tuple.{Tuple}
+use Rattle.tuple.specs.declared.field.Call.{Call}
+use Rattle.tuple.specs.Bounds.{places, largestCount}
+use Rattle.tuple.specs.Faults.{isDefined, knownHead, fieldFault, fieldsFault, tupleFault, placeBlank, restFrom, restBlank, isEntry}
+use Rattle.tuple.specs.Fields.{count, defined, largestOf}
+use Rattle.tuple.specs.Shapes.{field, is}
+use Rattle.tuple.proofs.NoFault.{entry-small}
+use Rattle.varint.specs.Writing.{bytesOf, widthOf}
+use Rattle.varint.proofs.WritingLaws.{bytes-step}
+
+-- ---- the most
+
+pub length-most : LengthMost
+length-most space room n typed e =
+    let fit = fits space room n e in
+    (fit .same, omega (arith, fit .same, dump-most space typed (record { formed = fit .formed; reached = fit .reached })))
+
+pub always-room : AlwaysRoom
+always-room space room typed formed not-refused enough =
+    cases (isReached space)
+    (λ r. whole-answer space room formed r (omega (arith, dump-most space typed (record { formed = formed; reached = r }))))
+    (λ r. absurd (not-refused (unreached-answer space room formed r)))
+
+-- ---- the longest
+
+-- a number from 2^28 up has five bytes
+width-step : (value : ℕ) → 128 ≤ value → value ≤ largestCount → widthOf value ≡ 1 + widthOf (value / 128)
+width-step value some few = omega (arith, ap length (bytes-step value some (omega arith)))
+
+five-bytes : (value : ℕ) → 268_435_456 ≤ value → value ≤ largestCount → widthOf value ≡ 5
+five-bytes value some few =
+    let second = value / 128 in
+    let third = second / 128 in
+    let fourth = third / 128 in
+    omega (
+      arith,
+      width-step value (omega arith) few,
+      width-step second (omega arith) (omega arith),
+      width-step third (omega arith) (omega arith),
+      width-step fourth (omega arith) (omega arith),
+      width-one (fourth / 128) (omega arith),
+    )
+
+wide-field : (f : Field) → is count defined f ≡ true → 268_435_456 ≤ f .value → f .value ≤ largestCount → length (fieldBytes f) ≡ 6
+wide-field f h some few =
+    let head = kind-state count defined f h in
+    let here : isDefined f ≡ true = rw (head .1) refl in
+    ap length (sym (bytes-defined f here)) ∙ length-append (bytesOf (headNumber f)) (bytesOf (f .value))
+    ∙ omega (arith, width-one (headNumber f) (omega arith), five-bytes (f .value) some few)
+
+module _ (tuple : Tuple) (entry : isEntry tuple ≡ true) (long : length (tuple .fields) ≡ places) (wide : Wide tuple) where
+  wide-at : (i : ℕ) → i < 6 → length (fieldBytes (field tuple i)) ≡ 6
+  unfolding largestOf
+  wide-at i below =
+      let parts = wide .each i below in
+      let head = kind-state count defined (field tuple i) (parts .0) in
+      let here : isDefined (field tuple i) ≡ true = rw (head .1) refl in
+      let few : field tuple i .value ≤ largestCount = rw (head .0) at (entry-small tuple i entry (omega (arith, wide .six)) here) in
+      wide-field (field tuple i) (parts .0) (parts .1) few
+
+  wide-tuple : length (tupleBytes tuple) ≡ 37
+  wide-tuple =
+      let six = wide .six in
+      let few : tuple .count ≤ places = omega arith in
+      omega (
+        arith,
+        tuple-length tuple,
+        width-one (tuple .count) (omega arith),
+        next tuple long few 0 (omega arith),
+        wide-at 0 (omega arith),
+        next tuple long few 1 (omega arith),
+        wide-at 1 (omega arith),
+        next tuple long few 2 (omega arith),
+        wide-at 2 (omega arith),
+        next tuple long few 3 (omega arith),
+        wide-at 3 (omega arith),
+        next tuple long few 4 (omega arith),
+        wide-at 4 (omega arith),
+        next tuple long few 5 (omega arith),
+        wide-at 5 (omega arith),
+        none-left tuple long few 6 (omega arith),
+      )
+
+  wide-record : length (callBytes (outBy processOne tuple)) ≡ 39
+  wide-record = omega (arith, out-length (outBy processOne tuple) (omega arith) refl, wide-tuple)
+
+records-length : (each : ℕ) (calls : List Call) → ((call : Call) → List·Memᴰ call calls → length (callBytes call) ≡ each) → length (recordsBytes calls) ≡ each * length calls
+unfolding recordsBytes
+records-length each [] same = omega arith
+records-length each (call ∷ calls) same =
+    let here = same call (List·Memᴰ·head refl) in
+    let later = records-length each calls (λ other m. same other (List·Memᴰ·tail m)) in
+    omega (arith, length-append (callBytes call) (recordsBytes calls), mul-suc each (length calls))
+
+module _ (config : Config) (tuples : List Tuple) (safe : sound config ≡ true) (bare : config .policy ≡ 0) (all : length tuples ≡ 128)
+    (wide : (tuple : Tuple) → List·Memᴰ tuple tuples → (isEntry tuple ≡ true) × (length (tuple .fields) ≡ places) × Wide tuple) where
+  lawful : Lawful tuples
+  lawful = record { few = omega arith; entries = λ tuple m. wide tuple m .0 }
+
+  calls-length : (call : Call) → List·Memᴰ call (map (callOf config) tuples) → length (callBytes call) ≡ 39
+  calls-length call m =
+      let of = mapped (callOf config) tuples m in
+      let tuple = wide (of .0) (of .1) in
+      rw (of .2, bare-call config safe bare (of .0)) (wide-record (of .0) (tuple .0) (tuple .1) (tuple .2))
+
+  full-length : length (dumpBytes (spaceOf config tuples)) ≡ 4_995
+  unfolding dumpBytes dumpCalls
+  full-length =
+      let calls = map (callOf config) tuples in
+      let other : eqb (config .policy) 3 ≡ false = ne-eqb (config .policy) 3 (λ three. omega arith) in
+      let set-up : length (setUpBytes config) ≡ 3 = ap length (set-up-bytes config safe) ∙ rw other in
+      let records = records-length 39 calls calls-length in
+      rw (held-of config tuples) (length-append (setUpBytes config) (recordsBytes calls) ∙ omega (arith, length-map tuples (callOf config)))
+
+  attained : (room : ℕ) → 4_995 ≤ room → writtenOf (spaceOf config tuples) room ≡ Length 4_995
+  attained room enough =
+      whole-answer (spaceOf config tuples) room (formed-of config tuples safe lawful) (bare-reached config safe bare tuples lawful) (omega (arith, full-length))
+      ∙ ap Length full-length
+
+-- six times 2^28
+abbrev wideTuple : Tuple
+wideTuple = record { count = places; fields = replicate places (record { kind = count; state = defined; value = 268_435_456 }) }
+
+wide-entry : isEntry wideTuple ≡ true
+unfolding isEntry tupleFault fieldsFault fieldFault knownHead largestOf restBlank restFrom placeBlank
+wide-entry = refl
+
+wide-each : (i : ℕ) → i < 6 → (is count defined (field wideTuple i) ≡ true) × (268_435_456 ≤ field wideTuple i .value)
+wide-each zero h = (refl, omega arith)
+wide-each (suc zero) h = (refl, omega arith)
+wide-each (suc (suc zero)) h = (refl, omega arith)
+wide-each (suc (suc (suc zero))) h = (refl, omega arith)
+wide-each (suc (suc (suc (suc zero)))) h = (refl, omega arith)
+wide-each (suc (suc (suc (suc (suc zero))))) h = (refl, omega arith)
+wide-each (suc (suc (suc (suc (suc (suc i)))))) h = absurd (omega arith)
+
+pub length-attained : LengthAttained
+length-attained =
+    record {
+      each = λ config tuples room safe bare all wide enough. attained config tuples safe bare all wide room enough;
+      one = (wideTuple, wide-entry, refl, record { six = refl; each = wide-each });
+    }

@@ -1,0 +1,307 @@
+-- A space in which a script ends is not refused 14: under policies 1 to 3 each tuple was appended by a call that its own call is but for the process, and
+-- under policy 0 every well-formed space is reached. From what a call does.
+use mathlib.Core.Path.{_≡_, refl, sym, ap, _∙_}
+use Prim.Native.Nat.{ℕ, _≤_, _<_}
+use native.Mathlib.Omega.{arith}
+use mathlib.Core.Bool.{true, false, and-eq-true-iff, false≢true}
+use mathlib.Core.List.{List, [], _∷_, _++_, map, map-append, append-assoc, append-nil, List·Memᴰ, List·Memᴰ·head, List·Memᴰ·tail, Memᴰ·append-right}
+use lib.ListN.{length, length-append}
+use lib.Dec.{eqb}
+use borrow.Author.Tests.{eqb-true, eqb-false, eq-eqb, ne-eqb, le-leb, lt-ltb}
+use borrow.Table.Steps.{cases}
+use Rattle.dump.specs.Dumps.{dumpCalls, isAppended, allAppended, isReached}
+use Rattle.dump.specs.Laws.{UnreachedRule}
+use Rattle.dump.specs.Appending.{processOne, outBy, casBy, ownProcess, templateOf, callOf}
+use Rattle.dump.proofs.AnswerLaws.{refused-unreached}
+use Rattle.dump.proofs.ReachLaws.{Entered, entered, call-entry, rebuilt}
+use Rattle.dump.proofs.Templates.{weak-template, decision-template}
+use Rattle.dump.proofs.TypedCalls.{typed-calls}
+use Rattle.calls.specs.declared.change.Change.{Change}
+use Rattle.calls.specs.declared.turn.Applied.{Applied}
+use Rattle.calls.specs.Changes.{carriedOut}
+use Rattle.calls.specs.Effects.{effect}
+use Rattle.calls.specs.Turns.{firstRefusal, judged, carriedBy, applied, turnsFrom, turns, lastOf, after, last}
+use Rattle.calls.proofs.CallSteps.{Puts as Enters, Moves, moves, changed, moves-carried, Steps, steps, formed-bounded}
+use Rattle.calls.proofs.Effects.{no-inp}
+use Rattle.calls.proofs.RunSteps.{fresh-space, none-lawful, fresh-run, after-run}
+use Rattle.policy.specs.declared.verdicts.Verdict.the-variants.{Permit}
+use Rattle.policy.specs.Justified.{isDecisionCall, casVerdict, justified}
+use Rattle.policy.specs.Policies.{verdictOn, verdict}
+use Rattle.policy.specs.Weak.{isWeakCall, weak}
+use Rattle.policy.proofs.DecisionLaws.{no-proposal}
+use Rattle.policy.proofs.PolicyLaws.{bare-rule, weak-rule, out-rule, decision-call}
+use Rattle.record.specs.Writing.{Typed}
+use Rattle.script.proofs.RunLaws.{run-rules}
+use Rattle.space.specs.declared.config.Config.{Config}
+use Rattle.space.specs.declared.space.Space.{Space}
+use Rattle.space.specs.Configs.{sound, hasProposals, known}
+use Rattle.space.specs.Shapes.{isProposal, processOf}
+use Rattle.space.specs.Spaces.{held, spaceOf}
+use Rattle.space.proofs.ConfigLaws.{sound-range, strict-proposals}
+use Rattle.space.proofs.SpaceRules.{Lawful, held-of, formed-of}
+use Rattle.tuple.specs.declared.fault.Fault.the-variants.{Absent}
+use Rattle.tuple.specs.declared.field.Tuple.{Tuple}
+use Rattle.tuple.specs.declared.field.Call.{Call}
+use Rattle.tuple.specs.declared.matching.Found.the-variants.{Nowhere}
+use Rattle.tuple.specs.declared.reply.Outcome.{Outcome}
+use Rattle.tuple.specs.declared.reply.Outcome.the-variants as outcome
+use Rattle.tuple.specs.Bounds.{capacity}
+use Rattle.tuple.specs.Faults.{isAbsent, tupleFault, partFault, usesTemplate, usesEntry, usedFault, isBlank, placeBlank, restFrom, restBlank, callFault, isEntry}
+use Rattle.tuple.specs.Fields.{out, cas, blankTuple}
+use Rattle.tuple.specs.Matching.{oldestOf}
+use Rattle.tuple.proofs.Blanks.{blank-tuple}
+use Rattle.tuple.proofs.NoFault.{absent, call-sound}
+
+-- ---- a call that is obeyed
+
+module _ (config : Config) (safe : sound config ≡ true) (tuples : List Tuple) (lawful : Lawful tuples) (call : Call) where
+  obeyed : callFault call ≡ Absent → (1 ≤ call .process) × (call .process ≤ config .n) → verdictOn config tuples call ≡ Permit
+      → applied (spaceOf config tuples) call .reply .outcome ≡ effect tuples call .reply .outcome
+  unfolding applied judged firstRefusal verdict known
+  obeyed faultless member permitted =
+      let formed = formed-of config tuples safe lawful in
+      rw (formed, formed-bounded (spaceOf config tuples) formed, faultless, le-leb 1 (call .process) (member .0), le-leb (call .process) (config .n) (member .1), held-of config tuples, permitted)
+
+-- ---- what a call that appended its entry says of the entry's own call
+
+module _ (config : Config) (safe : sound config ≡ true) (strict : 1 ≤ config .policy) (tuples : List Tuple) (lawful : Lawful tuples) (call : Call) (typed : Typed call) where
+  other : eqb (config .policy) 0 ≡ false
+  other = ne-eqb (config .policy) 0 (λ none. omega arith)
+
+  -- an out is the own call of its entry
+  out-again : call .code ≡ out → Entered config tuples call (applied (spaceOf config tuples) call) → callOf config (call .entry) ≡ call
+  unfolding callOf ownProcess known usesTemplate
+  out-again e put =
+      let rests : hasProposals config ≡ true = strict-proposals config safe strict (λ one. let weak = weak-rule config tuples call one .0 (put .permitted) in omega (arith, weak .code)) in
+      let own = out-rule config tuples call rests e .0 (put .permitted) in
+      let least = le-leb 1 (processOf (call .entry)) (omega (arith, own .own, put .known .0)) in
+      let most = le-leb (processOf (call .entry)) (config .n) (omega (arith, own .own, put .known .1)) in
+      let unused : usesTemplate (call .code) ≡ false = rw e in
+      let blank : blankTuple ≡ call .template = blank-tuple (call .template) (typed .template) (rw unused at (call-sound call (put .faultless) .template .rest)) in
+      rw (other, own .shape, least, most) (λ i. record { process = own .own i; code = sym e i; template = blank i; entry = call .entry })
+
+  -- the unused parts of a cas are zero
+  module _ (e : call .code ≡ cas) (faultless : callFault call ≡ Absent) where
+    template-rest : restFrom (call .template .count) (call .template .fields) ≡ true
+    unfolding usesTemplate restBlank
+    template-rest = rw e at (call-sound call faultless .template .rest)
+
+    entry-rest : restFrom (call .entry .count) (call .entry .fields) ≡ true
+    unfolding usesEntry restBlank
+    entry-rest = rw e at (call-sound call faultless .entry .rest)
+
+  -- a cas is the own call of its entry, but for the process
+  cas-again : call .code ≡ cas → Entered config tuples call (applied (spaceOf config tuples) call)
+      → (isProposal (call .entry) ≡ false) × (call .template ≡ templateOf (call .entry))
+  cas-again e put =
+      let template = template-rest e (put .faultless) in
+      let entry = entry-rest e (put .faultless) in
+      cases (eqb (config .policy) 1)
+      (λ one. let weak = weak-rule config tuples call (eqb-true (config .policy) 1 one) .0 (put .permitted) in (
+        no-proposal config (call .entry) (rw one (weak .entry)),
+        weak-template (call .template) (call .entry) (typed .template) (typed .entry) template entry (weak .same) (weak .template) (weak .entry),
+      ))
+      (λ one. let rests = strict-proposals config safe strict (eqb-false (config .policy) 1 one) in
+      let shaped = decision-call config tuples call rests e (put .permitted) in (
+        no-proposal config (call .entry) (rw one (shaped .entry)),
+        decision-template (call .template) (call .entry) (typed .template) (typed .entry) template entry (shaped .same) (shaped .template) (shaped .entry),
+      ))
+
+-- ---- a cas by process 1
+
+module _ (process : ℕ) (template entry : Tuple) where
+  same-fault : callFault (casBy processOne template entry) ≡ callFault (casBy process template entry)
+  unfolding callFault usedFault
+  same-fault = refl
+
+  same-verdict : (config : Config) (tuples : List Tuple) → verdictOn config tuples (casBy processOne template entry) ≡ verdictOn config tuples (casBy process template entry)
+  unfolding verdictOn weak isWeakCall justified casVerdict isDecisionCall
+  same-verdict config tuples = refl
+
+  inserts : (tuples : List Tuple) → oldestOf tuples template ≡ Nowhere → length tuples < capacity → effect tuples (casBy process template entry) .reply .outcome ≡ outcome.Inserted
+  unfolding effect
+  inserts tuples none room = rw (none, lt-ltb (length tuples) capacity room)
+
+-- ---- what was appended, its own call appends too
+
+module _ (config : Config) (safe : sound config ≡ true) (strict : 1 ≤ config .policy) (tuples : List Tuple) (lawful : Lawful tuples) (call : Call) (typed : Typed call) where
+  own-cas : isProposal (call .entry) ≡ false → callOf config (call .entry) ≡ casBy processOne (templateOf (call .entry)) (call .entry)
+  unfolding callOf
+  own-cas shape = rw (ne-eqb (config .policy) 0 (λ none. omega arith), shape)
+
+  append-again : isAppended (applied (spaceOf config tuples) call .reply .outcome) ≡ true
+      → isAppended (applied (spaceOf config tuples) (callOf config (call .entry)) .reply .outcome) ≡ true
+  append-again put = by-way (here .enters)
+    where
+      here : Entered config tuples call (applied (spaceOf config tuples) call)
+      here = entered config tuples lawful call put
+
+      by-way : {how : Outcome} → Enters tuples call how → isAppended (applied (spaceOf config tuples) (callOf config (call .entry)) .reply .outcome) ≡ true
+      by-way (Enters.by-out e) = rw (out-again config safe strict tuples lawful call typed e here) put
+      by-way (Enters.by-cas e none) =
+          let again = cas-again config safe strict tuples lawful call typed e here in
+          let template = templateOf (call .entry) in
+          let own = casBy (call .process) template (call .entry) in
+          let same : call ≡ own = λ i. record { process = call .process; code = e i; template = again .1 i; entry = call .entry } in
+          let other = casBy processOne template (call .entry) in
+          let faultless : callFault other ≡ Absent = same-fault (call .process) template (call .entry) ∙ ap callFault (sym same) ∙ here .faultless in
+          let permitted : verdictOn config tuples other ≡ Permit =
+          same-verdict (call .process) template (call .entry) config tuples ∙ ap (verdictOn config tuples) (sym same) ∙ here .permitted in
+          let answer : applied (spaceOf config tuples) other .reply .outcome ≡ outcome.Inserted =
+          obeyed config safe tuples lawful other faultless (omega arith, sound-range config safe .0) permitted
+          ∙ inserts processOne template (call .entry) tuples (rw (again .1) at none) (here .room) in
+          rw (own-cas (again .0), answer)
+
+-- ---- one call more
+
+-- a call changes nothing, or appends its entry
+data Went (config : Config) (tuples : List Tuple) (done : Applied) : Type 0 where
+  stays : done .space ≡ spaceOf config tuples → Went config tuples done
+  appends : isAppended (done .reply .outcome) ≡ true → Went config tuples done
+
+module _ (config : Config) (strict : 1 ≤ config .policy) (tuples : List Tuple) (lawful : Lawful tuples) (call : Call) where
+  moved : {how : Outcome} {change : Change} {done : Applied} → verdictOn config tuples call ≡ Permit → Moves tuples call how change → done .reply .outcome ≡ how
+      → done .space ≡ spaceOf config (changed tuples (call .entry) change) → Went config tuples done
+  moved permitted (Moves.adds (Enters.by-out e) room) answers same = appends (rw answers)
+  moved permitted (Moves.adds (Enters.by-cas e none) room) answers same = appends (rw answers)
+  moved permitted (Moves.full enters none) answers same = stays same
+  moved permitted (Moves.reads e) answers same = stays same
+  moved permitted Moves.lacks answers same = stays same
+  moved permitted Moves.keeps answers same = stays same
+  moved permitted (Moves.takes i e inside) answers same = absurd (no-inp config strict tuples call e permitted)
+
+  stepped : {done : Applied} → Steps (spaceOf config tuples) call done → Went config tuples done
+  unfolding carriedOut
+  stepped (Steps.refuses why low) = stays refl
+  stepped (Steps.denies d) = stays refl
+  stepped (Steps.obeys formed faultless member p) =
+      let same : held (spaceOf config tuples) ≡ tuples = held-of config tuples in
+      let move = moves tuples call faultless in
+      let whole : Went config tuples (carriedBy (spaceOf config tuples) call (effect tuples call)) =
+      moved (rw same at p) move refl (moves-carried config (lawful .few) move) in
+      rw same whole
+
+  went : Went config tuples (applied (spaceOf config tuples) call)
+  went = stepped (steps (spaceOf config tuples) call)
+
+-- ---- lists of calls
+
+-- one turn more, behind turns that have all appended their entries
+append-more : (space : Space) (calls : List Call) (call : Call) → allAppended (turnsFrom space calls) ≡ true
+    → isAppended (applied (after space calls) call .reply .outcome) ≡ true → allAppended (turnsFrom space (calls ++ (call ∷ []))) ≡ true
+unfolding allAppended turnsFrom lastOf
+append-more space [] call all put = rw put
+append-more space (earlier ∷ calls) call all put =
+    let parts = and-eq-true-iff (isAppended (applied space earlier .reply .outcome)) _ .0 all in
+    rw (parts .0) (append-more (applied space earlier .space) calls call (parts .1) put)
+
+module _ (config : Config) (safe : sound config ≡ true) where
+  -- the own calls of the tuples append them all
+  abbrev Reach : List Tuple → Type 0
+  Reach tuples = allAppended (turnsFrom (spaceOf config []) (map (callOf config) tuples)) ≡ true
+
+  reach-more : (tuples : List Tuple) (tuple : Tuple) → Reach tuples → isAppended (applied (spaceOf config tuples) (callOf config tuple) .reply .outcome) ≡ true
+      → Reach (tuples ++ (tuple ∷ []))
+  reach-more tuples tuple all put =
+      let left = rebuilt config safe [] tuples none-lawful all .left in
+      rw (map-append (callOf config) tuples (tuple ∷ [])) (append-more (spaceOf config []) (map (callOf config) tuples) (callOf config tuple) all (rw left put))
+
+  -- a space of tuples that their own calls append
+  record Left (space : Space) : Type 0 where
+    tuples : List Tuple
+    lawful : Lawful tuples
+    same : space ≡ spaceOf config tuples
+    reach : Reach tuples
+
+  module _ (strict : 1 ≤ config .policy) where
+    call-left : (call : Call) → Typed call → (tuples : List Tuple) → Lawful tuples → Reach tuples → Went config tuples (applied (spaceOf config tuples) call)
+        → Left (applied (spaceOf config tuples) call .space)
+    call-left call typed tuples lawful reach (stays same) = record { tuples = tuples; lawful = lawful; same = same; reach = reach }
+    call-left call typed tuples lawful reach (appends put) =
+        let here = entered config tuples lawful call put in
+        record {
+          tuples = tuples ++ (call .entry ∷ []);
+          lawful = here .lawful;
+          same = here .same;
+          reach = reach-more tuples (call .entry) reach (append-again config safe strict tuples lawful call typed put);
+        }
+
+    calls-left : (calls : List Call) → ((call : Call) → List·Memᴰ call calls → Typed call) → (space : Space) → Left space → Left (after space calls)
+    unfolding lastOf turnsFrom
+    calls-left [] typed space left = left
+    calls-left (call ∷ calls) typed space left =
+        let next : Left (applied space call .space) =
+        rw (left .same) (call-left call (typed call (List·Memᴰ·head refl)) (left .tuples) (left .lawful) (left .reach) (went config strict (left .tuples) (left .lawful) call)) in
+        calls-left calls (λ other m. typed other (List·Memᴰ·tail m)) (applied space call .space) next
+
+  -- ---- policy 0
+
+  module _ (bare : config .policy ≡ 0) where
+    bare-faultless : (tuple : Tuple) → isEntry tuple ≡ true → callFault (outBy processOne tuple) ≡ Absent
+    unfolding isEntry callFault usedFault partFault usesTemplate usesEntry restBlank restFrom placeBlank isBlank
+    bare-faultless tuple entry =
+        let parts = and-eq-true-iff (isAbsent (tupleFault true tuple)) _ .0 entry in
+        rw (absent (tupleFault true tuple) (parts .0), parts .1)
+
+    pub bare-call : (tuple : Tuple) → callOf config tuple ≡ outBy processOne tuple
+    unfolding callOf
+    bare-call tuple = rw (eq-eqb (config .policy) 0 bare)
+
+    bare-done : (tuples : List Tuple) (tuple : Tuple) → Lawful tuples → length tuples < capacity → isEntry tuple ≡ true
+        → isAppended (applied (spaceOf config tuples) (callOf config tuple) .reply .outcome) ≡ true
+    unfolding effect
+    bare-done tuples tuple lawful room entry =
+        let call = outBy processOne tuple in
+        let permitted = bare-rule config tuples call bare in
+        let answer : applied (spaceOf config tuples) call .reply .outcome ≡ outcome.Done =
+        obeyed config safe tuples lawful call (bare-faultless tuple entry) (omega arith, sound-range config safe .0) permitted ∙ rw (lt-ltb (length tuples) capacity room) in
+        rw (bare-call tuple, answer)
+
+    -- every list of entries that are not too many
+    bare-reach : (before rest : List Tuple) → Lawful before → Reach before → Lawful (before ++ rest) → Reach (before ++ rest)
+    bare-reach before [] lawful reach all = rw (append-nil before) reach
+    bare-reach before (tuple ∷ rest) lawful reach all =
+        let room : length before < capacity = omega (arith, all .few, length-append before (tuple ∷ rest)) in
+        let entry = all .entries tuple (Memᴰ·append-right before (List·Memᴰ·head refl)) in
+        let put = bare-done before tuple lawful room entry in
+        let here = entered config before lawful (callOf config tuple) put in
+        let more = append-assoc before (tuple ∷ []) rest in
+        rw more at (bare-reach (before ++ (tuple ∷ [])) rest (rw (call-entry config tuple) at (here .lawful)) (reach-more before tuple reach put) (rw (← more) at all))
+
+  -- ---- every policy
+
+  none-reach : Reach []
+  unfolding allAppended turnsFrom
+  none-reach = refl
+
+  run-left : (calls : List Call) → ((call : Call) → List·Memᴰ call calls → Typed call) → Left (last config calls)
+  run-left calls typed =
+      cases (eqb (config .policy) 0)
+      (λ e. let run = after-run calls (fresh-run config safe) in
+      record {
+        tuples = run .tuples;
+        lawful = run .lawful;
+        same = run .same;
+        reach = bare-reach (eqb-true (config .policy) 0 e) [] (run .tuples) none-lawful none-reach (run .lawful);
+      })
+      (λ e. let other = eqb-false (config .policy) 0 e in
+      calls-left (omega arith) calls typed _ (record { tuples = []; lawful = none-lawful; same = fresh-space config safe; reach = none-reach }))
+
+  reached-of : (tuples : List Tuple) → Reach tuples → isReached (spaceOf config tuples) ≡ true
+  unfolding isReached dumpCalls turns
+  reached-of tuples reach = rw (held-of config tuples, fresh-space config safe) reach
+
+  -- under policy 0 every well-formed space is reached
+  pub bare-reached : config .policy ≡ 0 → (tuples : List Tuple) → Lawful tuples → isReached (spaceOf config tuples) ≡ true
+  bare-reached none tuples lawful = reached-of tuples (bare-reach none [] tuples none-lawful none-reach lawful)
+
+-- ---- the answer
+
+pub unreached-rule : UnreachedRule
+unreached-rule space room s refused ends =
+    let run = run-rules s (ends .config) (ends .made) (ends .fault) space (ends .runs) in
+    let typed : (call : Call) → List·Memᴰ call (run .calls) → Typed call =
+    λ call m. typed-calls s (ends .bytes) call (run .at) (rw (run .read) m) in
+    let left = run-left (ends .config) (run .stands) (run .calls) typed in
+    let reached : isReached space ≡ true = ap isReached (run .left ∙ left .same) ∙ reached-of (ends .config) (run .stands) (left .tuples) (left .reach) in
+    false≢true (sym (refused-unreached space room refused) ∙ reached)

@@ -1,0 +1,53 @@
+-- Document 02, 2.4: the call that appends a tuple to a space. For a proposal it is an out by its own process, for a decision a cas by process 1, and
+-- under policy 0 for every tuple an out by process 1. For any other tuple it is a call that the policy never permits.
+use Prim.Native.Nat.{ℕ}
+use mathlib.Core.Bool.{cond}
+use mathlib.Core.List.{List}
+use lib.ListN.{set}
+use lib.Dec.{eqb}
+use Rattle.space.specs.declared.config.Config.{Config}
+use Rattle.space.specs.Configs.{known}
+use Rattle.space.specs.Shapes.{isProposal, processOf}
+use Rattle.tuple.specs.declared.field.Field.{Field}
+use Rattle.tuple.specs.declared.field.Tuple.{Tuple}
+use Rattle.tuple.specs.declared.field.Call.{Call}
+use Rattle.tuple.specs.Fields.{offset, processSet, wildcard, formal, out, cas, blankTuple}
+
+-- the process that appends what has no process of its own
+abbrev pub processOne : ℕ
+processOne = 1
+
+abbrev pub outBy : ℕ → Tuple → Call
+outBy process tuple = record { process = process; code = out; template = blankTuple; entry = tuple }
+
+abbrev pub casBy : ℕ → Tuple → Tuple → Call
+casBy process template tuple = record { process = process; code = cas; template = template; entry = tuple }
+
+-- ---- a proposal
+
+-- its own process; one that is none of 1 to n calls as 0, which is nobody
+unfoldable pub ownProcess : Config → Tuple → ℕ
+ownProcess config tuple = cond (known config (processOf tuple)) (processOf tuple) 0
+
+-- ---- a decision
+
+abbrev pub openOffset : Field
+openOffset = record { kind = offset; state = formal; value = 0 }
+
+abbrev pub anySet : Field
+anySet = record { kind = processSet; state = wildcard; value = 0 }
+
+-- the set of a decision of four fields is any; one of three has none
+abbrev pub withAnySet : ℕ → List Field → List Field
+withAnySet count fields = cond (eqb count 4) (set fields 3 anySet) fields
+
+-- the template of a decision's round: the decision with its offset open and its set any
+unfoldable pub templateOf : Tuple → Tuple
+templateOf tuple = record { count = tuple .count; fields = withAnySet (tuple .count) (set (tuple .fields) 2 openOffset) }
+
+-- ---- by the policy
+
+unfoldable pub callOf : Config → Tuple → Call
+callOf config tuple =
+    cond (eqb (config .policy) 0) (outBy processOne tuple)
+    (cond (isProposal tuple) (outBy (ownProcess config tuple) tuple) (casBy processOne (templateOf tuple) tuple))

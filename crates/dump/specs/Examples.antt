@@ -1,0 +1,124 @@
+-- Document 02, 2.4, by examples: the space in which document 01's worked script ends, written as a script, and spaces that no script ends in, as rows
+-- of one table with one claim.
+use mathlib.Core.Path.{_≡_}
+use Prim.Native.Nat.{ℕ}
+use mathlib.Core.Bool.{cond}
+use mathlib.Core.List.{List, [], _∷_, map}
+use lib.Dec.{eqb}
+use Rattle.dump.specs.Dumps.{dumpBytes, dumpMost, writtenOf}
+use Rattle.dump.specs.Laws.{EndsIn}
+use Rattle.record.specs.declared.writer.Recorded.{Recorded}
+use Rattle.record.specs.declared.writer.Recorded.the-variants.{Length, Unwritten}
+use Rattle.space.specs.declared.space.Space.{Space}
+use Rattle.space.specs.Spaces.{spaceOf}
+use Rattle.tuple.specs.declared.field.Field.{Field}
+use Rattle.tuple.specs.declared.field.Tuple.{Tuple}
+use Rattle.tuple.specs.Fields.{word, count, offset, processSet, defined, propose, decision, blankField}
+use Rattle.tuple.specs.Refusals.{refusal}
+
+-- ---- tuples
+
+abbrev pub given : ℕ → ℕ → Field
+given kind value = record { kind = kind; state = defined; value = value }
+
+-- (word 1, count round, count process, offset of this code)
+abbrev pub proposal : ℕ → ℕ → ℕ → Tuple
+proposal round process code =
+    record { count = 4; fields = given word propose ∷ given count round ∷ given count process ∷ given offset code ∷ blankField ∷ blankField ∷ [] }
+
+-- (word 2, count round, offset of this code, processes)
+abbrev pub decisionEntry : ℕ → ℕ → ℕ → Tuple
+decisionEntry round code set =
+    record { count = 4; fields = given word decision ∷ given count round ∷ given offset code ∷ given processSet set ∷ blankField ∷ blankField ∷ [] }
+
+-- (word 2, count round, offset of this code)
+abbrev pub weakEntry : ℕ → ℕ → Tuple
+weakEntry round code =
+    record { count = 3; fields = given word decision ∷ given count round ∷ given offset code ∷ blankField ∷ blankField ∷ blankField ∷ [] }
+
+-- ---- spaces: four processes, one of which may be faulty, and under policy 3 two choices
+
+abbrev pub under : ℕ → List Tuple → Space
+under policy tuples = spaceOf (record { n = 4; t = 1; policy = policy; k = cond (eqb policy 3) 2 0 }) tuples
+
+-- document 01's worked script
+abbrev pub workedScript : List ℕ
+workedScript =
+    4 ∷ 1 ∷ 2
+    ∷ 1 ∷ 1 ∷ 4 ∷ 4 ∷ 1 ∷ 8 ∷ 0 ∷ 8 ∷ 1 ∷ 12 ∷ 80
+    ∷ 2 ∷ 1 ∷ 4 ∷ 4 ∷ 1 ∷ 8 ∷ 0 ∷ 8 ∷ 2 ∷ 12 ∷ 81
+    ∷ 3 ∷ 1 ∷ 4 ∷ 4 ∷ 1 ∷ 8 ∷ 0 ∷ 8 ∷ 3 ∷ 12 ∷ 80
+    ∷ 4 ∷ 4 ∷ 4 ∷ 4 ∷ 2 ∷ 8 ∷ 0 ∷ 14 ∷ 17 ∷ 4 ∷ 4 ∷ 2 ∷ 8 ∷ 0 ∷ 12 ∷ 81 ∷ 16 ∷ 2
+    ∷ 1 ∷ 4 ∷ 4 ∷ 4 ∷ 2 ∷ 8 ∷ 0 ∷ 14 ∷ 17 ∷ 4 ∷ 4 ∷ 2 ∷ 8 ∷ 0 ∷ 12 ∷ 80 ∷ 16 ∷ 5
+    ∷ 2 ∷ 2 ∷ 4 ∷ 4 ∷ 2 ∷ 8 ∷ 0 ∷ 14 ∷ 17
+    ∷ 5 ∷ 2 ∷ 1 ∷ 5
+    ∷ []
+
+-- the space in which it ends
+abbrev pub worked : Space
+worked = under 2 (proposal 0 1 80 ∷ proposal 0 2 81 ∷ proposal 0 3 80 ∷ decisionEntry 0 80 5 ∷ [])
+
+-- its script: 04 01 02 and the worked script's records 1, 2, 3 and 5
+abbrev pub workedBytes : List ℕ
+workedBytes =
+    4 ∷ 1 ∷ 2
+    ∷ 1 ∷ 1 ∷ 4 ∷ 4 ∷ 1 ∷ 8 ∷ 0 ∷ 8 ∷ 1 ∷ 12 ∷ 80
+    ∷ 2 ∷ 1 ∷ 4 ∷ 4 ∷ 1 ∷ 8 ∷ 0 ∷ 8 ∷ 2 ∷ 12 ∷ 81
+    ∷ 3 ∷ 1 ∷ 4 ∷ 4 ∷ 1 ∷ 8 ∷ 0 ∷ 8 ∷ 3 ∷ 12 ∷ 80
+    ∷ 1 ∷ 4 ∷ 4 ∷ 4 ∷ 2 ∷ 8 ∷ 0 ∷ 14 ∷ 17 ∷ 4 ∷ 4 ∷ 2 ∷ 8 ∷ 0 ∷ 12 ∷ 80 ∷ 16 ∷ 5
+    ∷ []
+
+abbrev pub WorkedEnds : Type 0
+WorkedEnds = EndsIn workedScript worked
+
+abbrev pub WorkedBytes : Type 0
+WorkedBytes = dumpBytes worked ≡ workedBytes
+
+-- ---- the table
+
+-- a space, and what writing it into a buffer that has room answers
+pub record Row : Type 0 where
+  pub space : Space
+  pub answer : Recorded
+
+abbrev pub row : Space → Recorded → Row
+row space answer = record { space = space; answer = answer }
+
+-- no script ends in this space
+abbrev pub unreached : Space → Row
+unreached space = row space (Unwritten (refusal 14))
+
+abbrev pub rows : List Row
+rows =
+    row worked (Length 54)
+    -- a decision before the proposals that bear it
+    ∷ unreached (under 2 (decisionEntry 0 80 5 ∷ proposal 0 1 80 ∷ proposal 0 3 80 ∷ []))
+    -- two decisions of a round, an equal one and another one
+    ∷ unreached (under 2 (proposal 0 1 80 ∷ proposal 0 3 80 ∷ decisionEntry 0 80 5 ∷ decisionEntry 0 80 5 ∷ []))
+    ∷ unreached (under 2 (proposal 0 1 80 ∷ proposal 0 2 81 ∷ proposal 0 3 80 ∷ proposal 0 4 81 ∷ decisionEntry 0 80 5 ∷ decisionEntry 0 81 10 ∷ []))
+    -- two proposals of one process in a round, another one and an equal one
+    ∷ unreached (under 2 (proposal 0 1 80 ∷ proposal 0 1 81 ∷ []))
+    ∷ unreached (under 2 (proposal 0 1 80 ∷ proposal 0 1 80 ∷ []))
+    -- a proposal by process 0, by one above n, of a round above 7, of the mark
+    ∷ unreached (under 2 (proposal 0 0 80 ∷ []))
+    ∷ unreached (under 2 (proposal 0 5 80 ∷ []))
+    ∷ unreached (under 2 (proposal 8 1 80 ∷ []))
+    ∷ unreached (under 2 (proposal 0 1 0 ∷ []))
+    -- a set above n
+    ∷ unreached (under 2 (proposal 0 1 80 ∷ proposal 0 3 80 ∷ decisionEntry 0 80 21 ∷ []))
+    -- under policy 3 a choice, and an offset outside the choices
+    ∷ row (under 3 (proposal 0 1 3 ∷ [])) (Length 15)
+    ∷ unreached (under 3 (proposal 0 1 5 ∷ []))
+    -- under policy 1 a decision, a decided mark, and any other tuple
+    ∷ row (under 1 (weakEntry 0 80 ∷ [])) (Length 18)
+    ∷ unreached (under 1 (weakEntry 0 0 ∷ []))
+    ∷ unreached (under 1 (proposal 0 1 80 ∷ []))
+    -- under policy 0 every tuple
+    ∷ row (under 0 (decisionEntry 0 80 5 ∷ decisionEntry 0 80 5 ∷ [])) (Length 25)
+    -- not well formed, and so not asked for 14: no policy of this number, and an offset beyond its kind
+    ∷ row (under 255 (proposal 0 1 80 ∷ [])) (Unwritten (refusal 1))
+    ∷ row (under 2 (proposal 0 1 200_002 ∷ [])) (Unwritten (refusal 1))
+    ∷ []
+
+abbrev pub Rows : Type 0
+Rows = map (λ (r : Row). writtenOf (r .space) dumpMost) rows ≡ map (λ (r : Row). r .answer) rows

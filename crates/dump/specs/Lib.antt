@@ -1,0 +1,5 @@
+pub mod Appending
+pub mod Dumps
+pub mod Examples
+pub mod Laws
+pub mod Private

@@ -1,0 +1,448 @@
+//! A board written back as a script (02, 2.4).
+
+use crate::board::{AnswerKind, Board, Config, MOST_TUPLES};
+use crate::fields::{Field, Kind, Tuple, DECISION, MOST_FIELDS};
+use crate::numbers::{write_number, LONGEST_NUMBER};
+use crate::policy::{BARE, STRONG, WEAK};
+use crate::records::{record_of, Call};
+use crate::refusal::Refusal;
+
+/// The longest script that is written: a set-up of three bytes, then 128 outs
+/// of six counts. Seat, code, field count and heads take a byte each.
+pub const LONGEST_DUMP: usize = 3 + MOST_TUPLES * (3 + MOST_FIELDS * (1 + LONGEST_NUMBER));
+
+/// Stores the board's script from the buffer's first byte and answers its
+/// length. No byte after it is changed, and on a refusal no byte at all.
+pub fn dump_into(board: &Board, buffer: &mut [u8]) -> Result<usize, Refusal> {
+    let script = script_of(board)?;
+    let lent = buffer.get_mut(..script.len()).ok_or(Refusal::Buffer)?;
+    lent.copy_from_slice(&script);
+    Ok(script.len())
+}
+
+/// A script whose run ends in this board; refused 1, then 14 if there is none.
+///
+/// Under policy 0 there always is one. Under the others nothing is taken off,
+/// so a run that ends in this board appends its tuples one by one, oldest
+/// first, and the only calls that could are those of `call_of`. So it is
+/// enough to see whether these, in a run of their own, append every tuple.
+pub fn script_of(board: &Board) -> Result<Vec<u8>, Refusal> {
+    board.check()?;
+    let mut script = set_up(&board.config);
+    let mut run = Board::fresh(board.config)?;
+    for tuple in board.held() {
+        let call = call_of(board.config.policy, tuple).ok_or(Refusal::Unreached)?;
+        if !appends(&mut run, &call) {
+            return Err(Refusal::Unreached);
+        }
+        script.extend(record_of(&call)?);
+    }
+    Ok(script)
+}
+
+/// n, t and the policy number, and under policy 3 k.
+fn set_up(config: &Config) -> Vec<u8> {
+    let Config { n, t, policy, k } = *config;
+    let mut script = Vec::with_capacity(LONGEST_DUMP);
+    for number in [n, t, policy].into_iter().chain((policy == STRONG).then_some(k)) {
+        // The numbers of a sound set-up are at most 15.
+        write_number(number as u32, &mut script);
+    }
+    script
+}
+
+/// The call that puts this tuple on a board, if the policy can permit any: under
+/// policy 0 an out by seat 1, else for a proposal an out by its seat and for a
+/// decision a cas by seat 1, which is permitted to it if it is to anyone.
+fn call_of(policy: u64, tuple: &Tuple) -> Option<Call> {
+    match policy {
+        BARE => Some(Call::out(1, *tuple)),
+        WEAK => {
+            let round = tuple.fields[1].value_of(Kind::Count)?;
+            Some(Call::cas(1, weak_template(round), *tuple))
+        }
+        _ => match tuple.as_proposal() {
+            Some((_, seat, _)) => Some(Call::out(u32::try_from(seat).ok()?, *tuple)),
+            None => {
+                let (round, _, _) = tuple.as_decision()?;
+                Some(Call::cas(1, Tuple::decision_template(round), *tuple))
+            }
+        },
+    }
+}
+
+/// (word 2, count round, open offset).
+fn weak_template(round: u64) -> Tuple {
+    Tuple::of(&[
+        Field::given(Kind::Word, DECISION),
+        Field::given(Kind::Count, round),
+        Field::open(Kind::Offset),
+    ])
+}
+
+/// Makes a call; whether it appended its entry.
+fn appends(run: &mut Board, call: &Call) -> bool {
+    run.call(call).is_ok_and(|answer| matches!(answer.kind, AnswerKind::Done | AnswerKind::Inserted))
+}
+
+#[cfg(test)]
+mod tests {
+    use std::collections::HashSet;
+
+    use super::*;
+    use crate::records::Reader;
+    use crate::script::run;
+    use Refusal::*;
+
+    fn config(n: u64, t: u64, policy: u64) -> Config {
+        Config { n, t, policy, k: 0 }
+    }
+
+    fn strong(n: u64, t: u64, k: u64) -> Config {
+        Config { n, t, policy: STRONG, k }
+    }
+
+    /// A board with these tuples, as if handed in.
+    fn with(config: Config, tuples: &[Tuple]) -> Board {
+        let mut board = Board::fresh(config).unwrap();
+        board.count = tuples.len();
+        board.tuples[..tuples.len()].copy_from_slice(tuples);
+        board
+    }
+
+    /// (word 2, count round, offset).
+    fn weak(round: u64, offset: u64) -> Tuple {
+        Tuple::of(&[
+            Field::given(Kind::Word, DECISION),
+            Field::given(Kind::Count, round),
+            Field::given(Kind::Offset, offset),
+        ])
+    }
+
+    /// Bytes from two-digit hexadecimal groups.
+    fn hex(text: &str) -> Vec<u8> {
+        text.split_whitespace().map(|byte| u8::from_str_radix(byte, 16).unwrap()).collect()
+    }
+
+    /// The board in which a script without fault ends.
+    fn end_of(script: &[u8], config: Config) -> Board {
+        let mut reader = Reader::new(script);
+        for number in [config.n, config.t, config.policy] {
+            assert_eq!(reader.number().map(u64::from), Ok(number));
+        }
+        if config.policy == STRONG {
+            assert_eq!(reader.number().map(u64::from), Ok(config.k));
+        }
+        let mut board = Board::fresh(config).unwrap();
+        while !reader.at_end() {
+            let call = reader.record().unwrap();
+            assert!(appends(&mut board, &call), "{call:?}");
+        }
+        board
+    }
+
+    /// Writes the board's script, which must give it back.
+    fn written(board: &Board) -> Vec<u8> {
+        let script = script_of(board).unwrap();
+        assert_eq!(end_of(&script, board.config), *board);
+        script
+    }
+
+    fn refused(config: Config, tuples: &[Tuple]) {
+        assert_eq!(script_of(&with(config, tuples)), Err(Unreached), "{config:?} {tuples:?}");
+    }
+
+    /// The board in which the worked script of 01 ends.
+    fn worked() -> Board {
+        let proposal = |seat, offset| Tuple::proposal(0, seat, offset);
+        let tuples = [proposal(1, 0x50), proposal(2, 0x51), proposal(3, 0x50), Tuple::decision(0, 0x50, 5)];
+        with(config(4, 1, 2), &tuples)
+    }
+
+    const WORKED: &str = "04 01 02
+        01 01 04 04 01 08 00 08 01 0C 50
+        02 01 04 04 01 08 00 08 02 0C 51
+        03 01 04 04 01 08 00 08 03 0C 50
+        01 04 04 04 02 08 00 0E 11 04 04 02 08 00 0C 50 10 05";
+
+    #[test]
+    fn the_worked_board() {
+        assert_eq!(written(&worked()), hex(WORKED));
+        assert_eq!(hex(WORKED).len(), 54);
+        let text = "board 4 1 2\n1 done\n2 done\n3 done\n4 inserted\ntuples 4\n";
+        assert_eq!(run(&hex(WORKED)), text);
+    }
+
+    #[test]
+    fn an_empty_board() {
+        for policy in 0..=2 {
+            assert_eq!(written(&with(config(4, 1, policy), &[])), [4, 1, policy as u8]);
+        }
+        assert_eq!(written(&with(config(15, 4, 2), &[])), [15, 4, 2]);
+        assert_eq!(written(&with(strong(10, 1, 8), &[])), [10, 1, 3, 8]);
+    }
+
+    #[test]
+    fn under_policy_0_each_is_an_out_by_seat_1() {
+        // What the other policies never reach: each of these tuples, twice.
+        let tuples = [Tuple::proposal(9, 7, 0), Tuple::decision(0, 3, 0x7FFF), weak(0, 0)];
+        let board = with(config(1, 0, 0), &[tuples, tuples].concat());
+        let once = "01 01 04 04 01 08 09 08 07 0C 00
+            01 01 04 04 02 08 00 0C 03 10 FF FF 01
+            01 01 03 04 02 08 00 0C 00";
+        assert_eq!(written(&board), hex(&format!("01 00 00 {once} {once}")));
+        for policy in [config(4, 1, 1), config(4, 1, 2), strong(4, 1, 2)] {
+            for tuple in tuples {
+                refused(policy, &[tuple]);
+            }
+        }
+    }
+
+    #[test]
+    fn under_policy_1() {
+        let board = with(config(4, 1, 1), &[weak(7, 1), weak(0, 0x50)]);
+        let script = "04 01 01
+            01 04 03 04 02 08 07 0E 03 04 02 08 07 0C 01
+            01 04 03 04 02 08 00 0E 03 04 02 08 00 0C 50";
+        assert_eq!(written(&board), hex(script));
+        refused(board.config, &[weak(0, 0)]);
+        refused(board.config, &[weak(8, 1)]);
+        refused(board.config, &[weak(0, 1), weak(0, 1)]);
+        refused(board.config, &[weak(0, 1), weak(1, 1), weak(0, 3)]);
+        refused(board.config, &[Tuple::proposal(0, 1, 3)]);
+        refused(board.config, &[Tuple::decision(0, 3, 1)]);
+        refused(board.config, &[Tuple::of(&[Field::given(Kind::Word, 2)])]);
+        let mut worded = weak(0, 1);
+        worded.fields[0].value = 3;
+        refused(board.config, &[worded]);
+    }
+
+    #[test]
+    fn under_policy_3() {
+        let proposals = [Tuple::proposal(7, 4, 3), Tuple::proposal(7, 2, 3)];
+        let decided = [proposals[0], proposals[1], Tuple::decision(7, 3, 0b1010)];
+        let script = "04 01 03 02
+            04 01 04 04 01 08 07 08 04 0C 03
+            02 01 04 04 01 08 07 08 02 0C 03
+            01 04 04 04 02 08 07 0E 11 04 04 02 08 07 0C 03 10 0A";
+        assert_eq!(written(&with(strong(4, 1, 2), &decided)), hex(script));
+        for offset in [0, 2, 4, 5, 200_001] {
+            refused(strong(4, 1, 2), &[Tuple::proposal(7, 1, offset)]);
+            refused(strong(4, 1, 2), &[proposals[0], proposals[1], Tuple::decision(7, offset, 0b1010)]);
+        }
+        written(&with(strong(5, 1, 3), &[Tuple::proposal(7, 1, 5)]));
+        refused(strong(4, 1, 2), &[proposals[0], Tuple::decision(7, 3, 0b1000)]);
+        // Three seats for the mark, as policy 2 has it.
+        let three = [Tuple::proposal(0, 1, 1), Tuple::proposal(0, 2, 3), Tuple::proposal(0, 3, 5)];
+        let marked = [three[0], three[1], three[2], Tuple::decision(0, 0, 0b0111)];
+        written(&with(config(4, 1, 2), &marked));
+        refused(strong(5, 1, 3), &marked);
+    }
+
+    #[test]
+    fn no_script_ends_in_these() {
+        let four = config(4, 1, 2);
+        let [first, second, third, decision] = [0, 1, 2, 3].map(|place| worked().tuples[place]);
+        // A decision before the proposals that bear it, or without them.
+        written(&with(four, &[first, third, decision, second]));
+        refused(four, &[first, decision, third]);
+        refused(four, &[decision, first, second, third]);
+        refused(four, &[decision]);
+        refused(four, &[first, second, decision]);
+        refused(four, &[first, third, Tuple::decision(0, 0x50, 0b0111)]);
+        refused(four, &[first, third, Tuple::decision(0, 0x50, 0b0001)]);
+        refused(four, &[first, third, Tuple::decision(0, 0, 0b0101)]);
+        // Two decisions of a round, equal or not.
+        refused(four, &[first, third, decision, decision]);
+        refused(four, &[first, third, decision, second, Tuple::decision(0, 0, 0b0111)]);
+        // Two proposals of a seat in a round, equal or not.
+        refused(four, &[first, first]);
+        refused(four, &[first, second, Tuple::proposal(0, 1, 3)]);
+        written(&with(four, &[first, Tuple::proposal(1, 1, 0x50)]));
+        // A seat, a round, a mark or a set that nobody may propose or decide.
+        for seat in [0, 5, 15, 4_294_967_295] {
+            refused(four, &[Tuple::proposal(0, seat, 3)]);
+        }
+        for round in [8, 4_294_967_295] {
+            refused(four, &[Tuple::proposal(round, 1, 3)]);
+            let both = [Tuple::proposal(round, 1, 3), Tuple::proposal(round, 2, 3)];
+            refused(four, &[both[0], both[1], Tuple::decision(round, 3, 0b0011)]);
+        }
+        refused(four, &[Tuple::proposal(0, 1, 0)]);
+        refused(four, &[first, third, Tuple::decision(0, 0x50, 0b1_0101)]);
+        // Any other tuple.
+        refused(four, &[weak(0, 3)]);
+        refused(four, &[Tuple::of(&[Field::given(Kind::Count, 1); 6])]);
+    }
+
+    #[test]
+    fn into_a_lent_buffer() {
+        let mut buffer = [0xA5; 60];
+        assert_eq!(dump_into(&worked(), &mut buffer), Ok(54));
+        assert_eq!(buffer[..54], hex(WORKED));
+        assert_eq!(buffer[54..], [0xA5; 6]);
+        assert_eq!(dump_into(&worked(), &mut buffer[..54]), Ok(54));
+        for room in [0, 1, 3, 53] {
+            let mut buffer = vec![0xA5; room];
+            assert_eq!(dump_into(&worked(), &mut buffer), Err(Buffer));
+            assert_eq!(buffer, vec![0xA5; room]);
+        }
+    }
+
+    #[test]
+    fn refusals_in_order() {
+        let mut board = worked();
+        board.tuples.swap(0, 3);
+        for room in [0, 53, 54, LONGEST_DUMP] {
+            let mut buffer = vec![0xA5; room];
+            assert_eq!(dump_into(&board, &mut buffer), Err(Unreached), "14 before 10");
+            assert_eq!(buffer, vec![0xA5; room]);
+        }
+        let spoilt: [fn(&mut Board); 5] = [
+            |board| board.count = 3,
+            |board| board.count = 5,
+            |board| board.config.n = 3,
+            |board| board.config.k = 2,
+            |board| board.tuples[3].fields[5].value = 1,
+        ];
+        for spoil in spoilt {
+            let mut board = board.clone();
+            spoil(&mut board);
+            let mut buffer = [0xA5; 60];
+            assert_eq!(dump_into(&board, &mut buffer), Err(Unsound), "1 before 14");
+            assert_eq!(dump_into(&board, &mut []), Err(Unsound), "1 before 10");
+            assert_eq!(buffer, [0xA5; 60]);
+        }
+    }
+
+    #[test]
+    fn the_longest_script() {
+        for value in [1 << 28, u32::MAX.into()] {
+            let counts = Tuple::of(&[Field::given(Kind::Count, value); MOST_FIELDS]);
+            let board = with(config(15, 4, 0), &[counts; MOST_TUPLES]);
+            assert_eq!(written(&board).len(), 4_995);
+        }
+        assert_eq!(LONGEST_DUMP, 4_995);
+        let counts = Tuple::of(&[Field::given(Kind::Count, (1 << 28) - 1); MOST_FIELDS]);
+        let board = with(config(15, 4, 0), &[counts; MOST_TUPLES]);
+        assert_eq!(written(&board).len(), 4_995 - 6 * 128);
+    }
+
+    #[test]
+    fn full_boards_of_eight_rounds() {
+        let all = Kind::Seats.last();
+        for (config, offset) in [(config(15, 4, 2), 200_001), (strong(15, 1, 8), 15)] {
+            let mut tuples = Vec::new();
+            for round in 0..=7 {
+                tuples.extend((1..=15).map(|seat| Tuple::proposal(round, seat, offset)));
+                tuples.push(Tuple::decision(round, offset, all));
+            }
+            let board = with(config, &tuples);
+            assert_eq!(board.count, MOST_TUPLES);
+            assert!(written(&board).len() < LONGEST_DUMP);
+        }
+    }
+
+    /// All boards of so many of these tuples at most, oldest first.
+    fn all(tuples: &[Tuple], most: usize) -> Vec<Vec<Tuple>> {
+        let mut boards = vec![Vec::new()];
+        let mut last = boards.clone();
+        for _ in 0..most {
+            let longer = |board: &Vec<Tuple>| tuples.iter().map(|t| [&board[..], &[*t]].concat()).collect();
+            last = last.iter().flat_map(|board| -> Vec<Vec<Tuple>> { longer(board) }).collect();
+            boards.extend(last.iter().cloned());
+        }
+        boards
+    }
+
+    /// The tuple as a template, each field from its third on given, any or open.
+    fn templates(tuple: &Tuple) -> Vec<Tuple> {
+        let mut templates = vec![*tuple];
+        for place in 2..tuple.count {
+            for template in templates.clone() {
+                for state in 1..=2 {
+                    let mut other = template;
+                    other.fields[place] = Field { state, value: 0, ..other.fields[place] };
+                    templates.push(other);
+                }
+            }
+        }
+        templates
+    }
+
+    /// All boards of so many tuples at most that calls with these tuples reach. The templates are these tuples with any of their fields from
+    /// the third on any or open.
+    fn reached(config: Config, tuples: &[Tuple], most: usize) -> HashSet<Vec<Tuple>> {
+        let templates: HashSet<Tuple> = tuples.iter().flat_map(templates).collect();
+        let mut calls = Vec::new();
+        for seat in 0..=config.n as u32 + 1 {
+            calls.extend(tuples.iter().map(|entry| Call::out(seat, *entry)));
+            calls.extend(templates.iter().map(|template| Call::inp(seat, *template)));
+        }
+        // Who calls a cas matters to no policy.
+        for template in &templates {
+            calls.extend(tuples.iter().map(|entry| Call::cas(1, *template, *entry)));
+        }
+        let mut reached = HashSet::from([Vec::new()]);
+        let mut open = vec![Board::fresh(config).unwrap()];
+        while let Some(board) = open.pop() {
+            for call in &calls {
+                let mut next = board.clone();
+                let obeyed = next.call(call).is_ok();
+                if obeyed && next.count <= most && reached.insert(next.held().to_vec()) {
+                    open.push(next);
+                }
+            }
+        }
+        reached
+    }
+
+    /// 14 comes for those boards of these tuples that no calls reach.
+    fn refused_are_not_reached(config: Config, tuples: &[Tuple], most: usize) {
+        let reached = reached(config, tuples, most);
+        let (mut written, mut refused) = (0, 0);
+        for held in all(tuples, most) {
+            let script = script_of(&with(config, &held));
+            assert_eq!(script.is_ok(), reached.contains(&held), "{config:?} {held:?}");
+            match script {
+                Ok(script) => {
+                    assert_eq!(end_of(&script, config).held(), held);
+                    written += 1;
+                }
+                Err(refusal) => {
+                    assert_eq!(refusal, Unreached);
+                    refused += 1;
+                }
+            }
+        }
+        assert!(written == reached.len() && (refused > 100 || config.policy == BARE), "{written} {refused}");
+    }
+
+    #[test]
+    fn what_is_refused_is_not_reached() {
+        let others = [weak(0, 3), Tuple::of(&[Field::given(Kind::Seats, 1)])];
+        let proposals = [(0, 1, 1), (0, 1, 3), (0, 2, 1), (0, 2, 0), (0, 0, 1), (8, 1, 1)];
+        let proposals = proposals.map(|(round, seat, offset)| Tuple::proposal(round, seat, offset));
+        let decisions = [(0, 1, 1), (0, 1, 3), (0, 3, 1), (0, 0, 3), (8, 1, 1), (0, 1, 0)];
+        let decisions = decisions.map(|(round, offset, seats)| Tuple::decision(round, offset, seats));
+        let tuples = [&others[..], &proposals, &decisions].concat();
+        for config in [config(1, 0, 2), config(2, 0, 2), config(4, 1, 2), strong(1, 0, 2), strong(4, 1, 2)] {
+            refused_are_not_reached(config, &tuples, 3);
+        }
+        refused_are_not_reached(config(1, 0, 0), &tuples[..6], 2);
+        let decisions = [(0, 1), (0, 3), (0, 0), (7, 1), (8, 1), (1, 200_001)];
+        let decisions = decisions.map(|(round, offset)| weak(round, offset));
+        refused_are_not_reached(config(2, 0, 1), &[&tuples[1..4], &decisions].concat(), 3);
+    }
+
+    #[test]
+    fn what_is_refused_is_not_reached_with_the_mark() {
+        let proposals = [(1, 1), (2, 3), (3, 2), (3, 3)];
+        let proposals = proposals.map(|(seat, offset)| Tuple::proposal(0, seat, offset));
+        let decisions = [(0, 7), (0, 3), (3, 6)];
+        let decisions = decisions.map(|(offset, seats)| Tuple::decision(0, offset, seats));
+        let tuples = [&proposals[..], &decisions].concat();
+        refused_are_not_reached(config(4, 1, 2), &tuples, 4);
+        refused_are_not_reached(strong(4, 1, 2), &tuples, 4);
+    }
+}

@@ -1,0 +1,230 @@
+//! Boards written back as scripts by both (02, 2.4), and what was written run again, which must end in the board. Beside the plain version,
+//! `reached` judges which boards no script ends in.
+
+use std::collections::BTreeMap;
+
+use reference::board::MOST_TUPLES;
+use reference::dump::LONGEST_DUMP;
+use reference::policy::{BARE, STRONG, WEAK};
+use reference::records::Reader;
+use reference::script::run;
+use reference::{flat, sys};
+use reference::{Answer, Board, Config, Kind, Refusal, Tuple};
+
+use super::reached::{flaw, Flaw};
+use super::{compare_dump, Dice, CHOICES, POLICIES, VALUES};
+
+/// How often boards were written back, and refused 1, 14 and 10.
+#[derive(Clone, Copy, Debug, Default)]
+pub struct Came {
+    pub written: usize,
+    pub unsound: usize,
+    pub unreached: usize,
+    pub short: usize,
+}
+
+/// What came under each policy, and why it was 14.
+#[derive(Default)]
+pub struct Dumps {
+    came: BTreeMap<u64, Came>,
+    flaws: BTreeMap<(u64, Flaw), usize>,
+}
+
+impl Dumps {
+    /// Writes a board back by both, into buffers of several lengths, holds the answer against the rule, and runs what was written.
+    pub fn note(&mut self, board: &Board) -> Result<Vec<u8>, Refusal> {
+        let policy = board.config.policy;
+        let came = self.came.entry(policy).or_default();
+        let answer = compare_dump(board, &[0xA5; LONGEST_DUMP + 1]);
+        let unsound = board.check().err();
+        let flaw = if unsound.is_none() { flaw(board) } else { None };
+        let expected = unsound.or(flaw.map(|_| Refusal::Unreached));
+        assert_eq!(answer.as_ref().err(), expected.as_ref(), "{flaw:?} in {board:?}");
+        match &answer {
+            Ok(script) => {
+                for room in [script.len() - 1, 0] {
+                    assert_eq!(compare_dump(board, &vec![0x5A; room]), Err(Refusal::Buffer));
+                    came.short += 1;
+                }
+                assert_eq!(compare_dump(board, &vec![0x5A; script.len()]).as_ref(), Ok(script));
+                ends_in(script, board);
+                came.written += 1;
+            }
+            Err(refusal) => {
+                // 1 and 14 come before 10.
+                assert_eq!(compare_dump(board, &[]), Err(*refusal));
+                let refused =
+                    if *refusal == Refusal::Unsound { &mut came.unsound } else { &mut came.unreached };
+                *refused += 1;
+            }
+        }
+        if let Some(flaw) = flaw {
+            *self.flaws.entry((policy, flaw)).or_default() += 1;
+        }
+        answer
+    }
+
+    /// What came under a policy.
+    pub fn under(&self, policy: u64) -> Came {
+        self.came.get(&policy).copied().unwrap_or_default()
+    }
+
+    /// How many boards there were.
+    pub fn boards(&self) -> usize {
+        self.came.values().map(|came| came.written + came.unsound + came.unreached).sum()
+    }
+
+    /// Prints what came under each policy.
+    pub fn print(&self) {
+        for (policy, Came { written, unsound, unreached, short }) in &self.came {
+            if *policy > STRONG {
+                continue;
+            }
+            println!(
+                "         under policy {policy} written {written}, refused 1 {unsound}, refused 14 {unreached}; \
+                 refused 10 {short}"
+            );
+            let flaws = self.flaws.iter().filter(|((p, _), _)| p == policy);
+            let flaws: Vec<String> = flaws.map(|((_, flaw), often)| format!("{flaw:?} {often}")).collect();
+            if !flaws.is_empty() {
+                println!("         refused 14 under policy {policy}: {}", flaws.join(", "));
+            }
+        }
+    }
+
+    /// Each answer that can come did so often at least under this policy, but 10, which each written board gives: all but 14 under policy 0.
+    pub fn assert_came(&self, policy: u64, least: usize) {
+        let came = self.under(policy);
+        let Came { written, unsound, unreached, .. } = came;
+        assert!(written.min(unsound) >= least, "{came:?} under policy {policy}");
+        assert!(
+            if policy == BARE { unreached == 0 } else { unreached >= least },
+            "{came:?} under policy {policy}"
+        );
+    }
+
+    /// Each of these flaws came so often at least under this policy.
+    pub fn assert_each(&self, policy: u64, flaws: &[Flaw], least: usize) {
+        for flaw in flaws {
+            let often = self.flaws.get(&(policy, *flaw)).copied().unwrap_or(0);
+            assert!(often >= least, "{flaw:?} came {often} times under policy {policy}");
+        }
+    }
+}
+
+/// Runs a script by both, call by call and as a whole: each call appends a tuple, and the last one leaves this board.
+fn ends_in(script: &[u8], board: &Board) {
+    let Config { n, t, policy, k } = board.config;
+    let numbers = if policy == STRONG { vec![n, t, policy, k] } else { vec![n, t, policy] };
+    // Each number of a sound set-up takes one byte.
+    assert_eq!(script[..numbers.len()].iter().map(|byte| u64::from(*byte)).collect::<Vec<_>>(), numbers);
+
+    let opened = sys::fresh(flat::config(&board.config));
+    assert_eq!(opened.refusal, 0, "{script:02X?}");
+    let (mut space, mut at) = (opened.space, numbers.len());
+    while at < script.len() {
+        let read = sys::read(script, at);
+        assert_eq!(read.refusal, 0, "{script:02X?} at {at}");
+        let applied = sys::apply(space, read.call);
+        // Done or inserted.
+        assert!([0, 3].contains(&applied.reply.outcome), "{:?} to {:?}", applied.reply, read.call);
+        (space, at) = (applied.space, read.next);
+    }
+    assert!(space == flat::space(board), "{script:02X?} ends in {space:?}, not in {board:?}");
+
+    let mut plain = Board::fresh(board.config).expect("a sound set-up");
+    let mut reader = Reader::new(&script[numbers.len()..]);
+    while !reader.at_end() {
+        let call = reader.record().expect("a record");
+        let answer = plain.call(&call);
+        assert!([Ok(Answer::DONE), Ok(Answer::INSERTED)].contains(&answer), "{answer:?} to {call:?}");
+    }
+    assert!(plain == *board, "{script:02X?} ends in {plain:?}, not in {board:?}");
+
+    let text = text_of(board, &numbers);
+    let mut buffer = vec![0; text.len() + 1];
+    let length = sys::script(script, &mut buffer);
+    assert_eq!(length, Ok(text.len()), "{script:02X?}");
+    assert_eq!(String::from_utf8_lossy(&buffer[..text.len()]), text, "{script:02X?}");
+    assert_eq!(run(script), text, "{script:02X?}");
+}
+
+/// What the program prints for a script that appends this board's tuples: nothing but done and inserted between the first line and the
+/// last.
+fn text_of(board: &Board, numbers: &[u64]) -> String {
+    let numbers: Vec<String> = numbers.iter().map(u64::to_string).collect();
+    let mut text = format!("board {}\n", numbers.join(" "));
+    for (number, tuple) in (1..).zip(board.held()) {
+        let done = match board.config.policy {
+            BARE => true,
+            WEAK => false,
+            _ => tuple.fields[0].value == 1,
+        };
+        text += &format!("{number} {}\n", if done { "done" } else { "inserted" });
+    }
+    text + &format!("tuples {}\n", board.count)
+}
+
+/// A board with these tuples, as if handed in.
+pub fn board_with(config: Config, tuples: &[Tuple]) -> Board {
+    let mut board = Board { config, count: tuples.len(), tuples: [Tuple::BLANK; MOST_TUPLES] };
+    board.tuples[..tuples.len()].copy_from_slice(tuples);
+    board
+}
+
+/// A board beside this one: two of its tuples swapped, one repeated, one taken out, one value changed, or under another set-up.
+pub fn near_miss(dice: &mut Dice, board: &Board) -> Board {
+    let mut config = board.config;
+    let mut tuples = board.held().to_vec();
+    let held = tuples.len() as u64;
+    match dice.below(6) {
+        0 | 1 if held > 1 => {
+            let first = dice.below(held) as usize;
+            // Half of them with the next but one or two, so that few others stand between.
+            let second =
+                if dice.one_in(2) { first + 1 + dice.below(2) as usize } else { dice.below(held) as usize };
+            tuples.swap(first, second.min(held as usize - 1));
+        }
+        2 if held > 0 => {
+            let tuple = dice.pick(&tuples);
+            tuples.truncate(MOST_TUPLES - 1);
+            tuples.insert(dice.below(tuples.len() as u64 + 1) as usize, tuple);
+        }
+        3 if held > 0 => drop(tuples.remove(dice.below(held) as usize)),
+        4 if held > 0 => {
+            let place = dice.below(held) as usize;
+            change_value(dice, &mut tuples[place]);
+        }
+        _ => change_set_up(dice, &mut config),
+    }
+    board_with(config, &tuples)
+}
+
+/// Gives one field of a tuple another value, seldom one beyond its kind.
+fn change_value(dice: &mut Dice, tuple: &mut Tuple) {
+    let place = dice.below(tuple.count as u64) as usize;
+    let field = &mut tuple.fields[place];
+    let last = Kind::from_number(field.kind).expect("a field in use").last();
+    let value = match dice.below(8) {
+        0..=2 => field.value.saturating_sub(1 + dice.below(2)),
+        3 | 4 => field.value + 1 + dice.below(2),
+        5 => field.value ^ 1 << dice.below(4),
+        _ => dice.pick(&VALUES),
+    };
+    field.value = if dice.one_in(4) { value } else { value.min(last) };
+}
+
+/// Gives one number of a set-up another value.
+fn change_set_up(dice: &mut Dice, config: &mut Config) {
+    let near = |dice: &mut Dice, number: u64| if dice.one_in(2) { number + 1 } else { number.max(1) - 1 };
+    match dice.below(5) {
+        0 | 1 => config.n = near(dice, config.n),
+        2 => config.t = near(dice, config.t),
+        3 if config.policy == STRONG => config.k = near(dice, config.k),
+        3 => config.k = dice.pick(&CHOICES),
+        _ => {
+            config.policy = dice.pick(&POLICIES[..5]);
+            config.k = if config.policy == STRONG { 2 + dice.below(3) } else { 0 };
+        }
+    }
+}

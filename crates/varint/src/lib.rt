@@ -1,8 +1,10 @@
 // Numbers in groups of seven bits, the lowest group first: a reader that takes the shortest form alone, and a writer of that form.
 ghost use mathlib.Core.Path.{_≡_};
+ghost use mathlib.Core.Bool.{cond, _&&_};
 ghost use Prim.Native.Nat.{_+_, _≤_};
-ghost use lib.ListN.{length, drop};
-ghost use Rattle.varint.specs.Reading.{further, numberAt, numberFrom};
+ghost use lib.ListN.{length};
+ghost use lib.Dec.{ltb, eqb};
+ghost use Rattle.varint.specs.Reading.{lastGroup, numberAt};
 ghost use Rattle.varint.specs.Writing.{bytesOf, widthOf, stored, writtenAt, leftAt};
 
 // The most groups that a number has.
@@ -34,52 +36,45 @@ pub enum Written {
     NoRoom,
 }
 
-// The number that stands at a place of s. Most are of one byte, and are read here, without a call of the
-// function that calls itself.
+// The number that stands at a place of s. Group after group is read, the lowest first: `value` is what the groups before `place` make up, `worth`
+// what the lowest bit of the group at `place` is worth, and `more` how many groups may follow it.
 pub fn read(s: &[u8], at: usize) -> Number
     ensures { λ r. ⌜ r ≡ numberAt (now (s .entry)) at ⌝ }
 {
-    if s.len() <= at {
-        return Number::Cut;
+    let mut value: u64 = 0;
+    let mut worth: u64 = 1;
+    let mut place = at;
+    let mut more = GROUPS - 1;
+    loop {
+        if s.len() <= place {
+            return Number::Cut;
+        }
+        let byte = wide(s[place]);
+        if byte < 128 {
+            if is_overlong(byte, worth, more) {
+                return Number::Overlong;
+            }
+            return Number::Value(value + worth * byte, place + 1);
+        }
+        if more == 0 {
+            return Number::Overlong;
+        }
+        value += worth * (byte % 128);
+        worth *= 128;
+        place += 1;
+        more -= 1;
     }
-    let byte = wide(s[at]);
-    if byte < 128 {
-        return Number::Value(byte, at + 1);
-    }
-    groups_from(s, at, GROUPS - 1)
 }
 
-// The number at a place of s whose first group at most `more` groups may follow: the low seven bits of its first byte, plus
-// 128 times the number that follows if the byte's top bit is set.
-fn groups_from(s: &[u8], at: usize, more: usize) -> Number
-    requires { ⌜ more ≤ further ⌝ }
-    ensures { λ r. ⌜ r ≡ numberFrom more (drop at (now (s .entry))) at ⌝ }
+// Whether a number whose last group is this byte is too long, or not in its shortest form: a last byte 00 after another byte, or a group above the
+// largest where no more may follow. `worth` is 1 for a first group alone, and `more` 0 where none may follow.
+fn is_overlong(byte: u64, worth: u64, more: usize) -> bool
+    ensures { λ r. ⌜ r ≡ cond (eqb byte 0) (ltb 1 worth) (eqb more 0 && ltb lastGroup byte) ⌝ }
 {
-    if s.len() <= at {
-        return Number::Cut;
+    if byte == 0 {
+        return 1 < worth;
     }
-    let byte = wide(s[at]);
-    if more == 0 {
-        return if byte <= LAST_GROUP {
-            Number::Value(byte, at + 1)
-        } else {
-            Number::Overlong
-        };
-    }
-    if byte < 128 {
-        return Number::Value(byte, at + 1);
-    }
-    match groups_from(s, at + 1, more - 1) {
-        Number::Value(rest, next) => {
-            if rest == 0 {
-                Number::Overlong
-            } else {
-                Number::Value(byte % 128 + 128 * rest, next)
-            }
-        }
-        Number::Cut => Number::Cut,
-        Number::Overlong => Number::Overlong,
-    }
+    if more == 0 { LAST_GROUP < byte } else { false }
 }
 
 // How many bytes the shortest form of a number has.

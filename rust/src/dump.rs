@@ -1,9 +1,9 @@
-//! A board written back as a script (02, 2.4).
+//! A board written back as a script (02, 2.4 and 2.6).
 
 use crate::board::{AnswerKind, Board, Config, MOST_TUPLES};
 use crate::fields::{Field, Kind, Tuple, DECISION, MOST_FIELDS};
 use crate::numbers::{write_number, LONGEST_NUMBER};
-use crate::policy::{BARE, STRONG, WEAK};
+use crate::policy::{BARE, LIST, STRONG, WEAK};
 use crate::records::{record_of, Call};
 use crate::refusal::Refusal;
 
@@ -52,14 +52,19 @@ fn set_up(config: &Config) -> Vec<u8> {
 }
 
 /// The call that puts this tuple on a board, if the policy can permit any: under
-/// policy 0 an out by seat 1, else for a proposal an out by its seat and for a
-/// decision a cas by seat 1, which is permitted to it if it is to anyone.
+/// policy 0 an out by seat 1, else for a proposal an out by its seat, for a
+/// decision a cas by seat 1, which is permitted to it if it is to anyone, and
+/// for a list tuple a cas by its seat.
 fn call_of(policy: u64, tuple: &Tuple) -> Option<Call> {
     match policy {
         BARE => Some(Call::out(1, *tuple)),
         WEAK => {
             let round = tuple.fields[1].value_of(Kind::Count)?;
             Some(Call::cas(1, weak_template(round), *tuple))
+        }
+        LIST => {
+            let (position, seat, _, _) = tuple.as_listed()?;
+            Some(Call::cas(u32::try_from(seat).ok()?, Tuple::listed_template(position), *tuple))
         }
         _ => match tuple.as_proposal() {
             Some((_, seat, _)) => Some(Call::out(u32::try_from(seat).ok()?, *tuple)),
@@ -175,7 +180,7 @@ mod tests {
 
     #[test]
     fn an_empty_board() {
-        for policy in 0..=2 {
+        for policy in [0, 1, 2, 4] {
             assert_eq!(written(&with(config(4, 1, policy), &[])), [4, 1, policy as u8]);
         }
         assert_eq!(written(&with(config(15, 4, 2), &[])), [15, 4, 2]);
@@ -191,7 +196,7 @@ mod tests {
             01 01 04 04 02 08 00 0C 03 10 FF FF 01
             01 01 03 04 02 08 00 0C 00";
         assert_eq!(written(&board), hex(&format!("01 00 00 {once} {once}")));
-        for policy in [config(4, 1, 1), config(4, 1, 2), strong(4, 1, 2)] {
+        for policy in [config(4, 1, 1), config(4, 1, 2), strong(4, 1, 2), config(4, 1, 4)] {
             for tuple in tuples {
                 refused(policy, &[tuple]);
             }
@@ -237,6 +242,56 @@ mod tests {
         let marked = [three[0], three[1], three[2], Tuple::decision(0, 0, 0b0111)];
         written(&with(config(4, 1, 2), &marked));
         refused(strong(5, 1, 3), &marked);
+    }
+
+    #[test]
+    fn under_policy_4_each_is_a_cas_by_its_seat() {
+        let four = config(4, 1, LIST);
+        let list = [(1, 4, 0, 0x50), (2, 1, 0, 0x51), (3, 4, u32::MAX.into(), 1)];
+        let [first, second, third] = list.map(|(p, q, s, v)| Tuple::listed(p, q, s, v));
+        let script = "04 01 04
+            04 04 05 04 03 08 01 09 09 0E 05 04 03 08 01 08 04 08 00 0C 50
+            01 04 05 04 03 08 02 09 09 0E 05 04 03 08 02 08 01 08 00 0C 51
+            04 04 05 04 03 08 03 09 09 0E 05 04 03 08 03 08 04 08 FF FF FF FF 0F 0C 01";
+        assert_eq!(written(&with(four, &[first, second, third])), hex(script));
+        // Out of order, with a gap, a position twice, a seat and serial twice.
+        refused(four, &[second]);
+        refused(four, &[second, first]);
+        refused(four, &[first, third]);
+        refused(four, &[first, second, second]);
+        refused(four, &[first, second, Tuple::listed(2, 2, 0, 3)]);
+        refused(four, &[first, Tuple::listed(2, 4, 0, 3)]);
+        refused(four, &[first, second, Tuple::listed(3, 4, 0, 0x50)]);
+        // A position, a seat, a mark or another tuple that nobody may list.
+        refused(four, &[Tuple::listed(0, 1, 0, 3)]);
+        for seat in [0, 5, 15, 4_294_967_295] {
+            refused(four, &[Tuple::listed(1, seat, 0, 3)]);
+            refused(four, &[first, Tuple::listed(2, seat, 1, 3)]);
+        }
+        refused(four, &[Tuple::listed(1, 1, 0, 0)]);
+        refused(four, &[first, Tuple::listed(2, 1, 0, 0)]);
+        refused(four, &[first, weak(0, 3)]);
+        refused(four, &[Tuple::proposal(0, 1, 3)]);
+        refused(four, &[Tuple::of(&first.fields[..4])]);
+        for policy in [config(4, 1, 1), config(4, 1, 2), strong(4, 1, 2)] {
+            refused(policy, &[first]);
+        }
+    }
+
+    #[test]
+    fn the_longest_list() {
+        let list = |last: u64| -> Vec<Tuple> {
+            let listed = |p| Tuple::listed(p, 1 + p % 15, (1 << 28) + p, 200_001);
+            (1..=last).map(listed).collect()
+        };
+        // 27 bytes for each position.
+        for last in [1, 2, 111, 112] {
+            let board = with(config(15, 4, LIST), &list(last));
+            assert_eq!(written(&board).len(), 3 + 27 * last as usize);
+        }
+        assert_eq!(written(&with(config(15, 4, LIST), &list(112))).len(), 3_027);
+        refused(config(15, 4, LIST), &list(113));
+        refused(config(15, 4, LIST), &list(128));
     }
 
     #[test]
@@ -378,10 +433,11 @@ mod tests {
         for seat in 0..=config.n as u32 + 1 {
             calls.extend(tuples.iter().map(|entry| Call::out(seat, *entry)));
             calls.extend(templates.iter().map(|template| Call::inp(seat, *template)));
-        }
-        // Who calls a cas matters to no policy.
-        for template in &templates {
-            calls.extend(tuples.iter().map(|entry| Call::cas(1, *template, *entry)));
+            // Who calls a cas matters to policy 4 alone.
+            if seat == 1 || config.policy == LIST {
+                let cas = |template| tuples.iter().map(move |entry| Call::cas(seat, template, *entry));
+                calls.extend(templates.iter().copied().flat_map(cas));
+            }
         }
         let mut reached = HashSet::from([Vec::new()]);
         let mut open = vec![Board::fresh(config).unwrap()];
@@ -433,6 +489,34 @@ mod tests {
         let decisions = [(0, 1), (0, 3), (0, 0), (7, 1), (8, 1), (1, 200_001)];
         let decisions = decisions.map(|(round, offset)| weak(round, offset));
         refused_are_not_reached(config(2, 0, 1), &[&tuples[1..4], &decisions].concat(), 3);
+    }
+
+    #[test]
+    fn what_is_refused_is_not_reached_on_a_list() {
+        let others = [weak(0, 3), Tuple::proposal(0, 1, 3)];
+        let list = |rows: &[(u64, u64, u64, u64)]| -> Vec<Tuple> {
+            rows.iter().map(|(p, q, s, v)| Tuple::listed(*p, *q, *s, *v)).collect()
+        };
+        // Two seats and another, two serials, a mark, a seat and positions that are none.
+        let rows = [
+            (1, 1, 0, 3),
+            (1, 1, 1, 3),
+            (1, 2, 0, 0),
+            (1, 0, 0, 3),
+            (2, 1, 0, 3),
+            (2, 2, 0, 3),
+            (2, 2, 0, 1),
+            (3, 1, 1, 3),
+            (3, 3, 0, 3),
+            (0, 1, 2, 3),
+            (113, 1, 2, 3),
+        ];
+        let tuples = [&others[..], &list(&rows)].concat();
+        for n in 1..=3 {
+            refused_are_not_reached(config(n, 0, LIST), &tuples, 3);
+        }
+        let rows = [(1, 1, 0, 3), (2, 1, 1, 3), (2, 2, 0, 3), (3, 1, 1, 3), (3, 2, 0, 1), (4, 1, 2, 3)];
+        refused_are_not_reached(config(2, 0, LIST), &list(&rows), 4);
     }
 
     #[test]

@@ -17,6 +17,8 @@ pub const MOST_SEATS: u64 = 15;
 pub const PROPOSE: u64 = 1;
 /// The word that starts a decision.
 pub const DECISION: u64 = 2;
+/// The word that starts a list tuple.
+pub const LISTED: u64 = 3;
 
 /// What a field is about.
 #[derive(Clone, Copy, Debug, PartialEq, Eq, Hash)]
@@ -198,6 +200,28 @@ impl Tuple {
         ])
     }
 
+    /// (word 3, count position, count seat, count serial, offset shift).
+    pub fn listed(position: u64, seat: u64, serial: u64, shift: u64) -> Tuple {
+        Tuple::of(&[
+            Field::given(Kind::Word, LISTED),
+            Field::given(Kind::Count, position),
+            Field::given(Kind::Count, seat),
+            Field::given(Kind::Count, serial),
+            Field::given(Kind::Offset, shift),
+        ])
+    }
+
+    /// (word 3, count position, any count, any count, open offset).
+    pub fn listed_template(position: u64) -> Tuple {
+        Tuple::of(&[
+            Field::given(Kind::Word, LISTED),
+            Field::given(Kind::Count, position),
+            Field::any(Kind::Count),
+            Field::any(Kind::Count),
+            Field::open(Kind::Offset),
+        ])
+    }
+
     /// The fields in use.
     pub fn used(&self) -> &[Field] {
         &self.fields[..self.count.min(MOST_FIELDS)]
@@ -255,6 +279,19 @@ impl Tuple {
             return None;
         }
         Some((round.value_of(Kind::Count)?, offset.value_of(Kind::Offset)?, seats.value_of(Kind::Seats)?))
+    }
+
+    /// Position, seat, serial and shift, if this is (word 3, count, count,
+    /// count, offset), all given.
+    pub fn as_listed(&self) -> Option<(u64, u64, u64, u64)> {
+        let [word, position, seat, serial, shift] = self.used() else {
+            return None;
+        };
+        if word.value_of(Kind::Word)? != LISTED {
+            return None;
+        }
+        let (position, seat) = (position.value_of(Kind::Count)?, seat.value_of(Kind::Count)?);
+        Some((position, seat, serial.value_of(Kind::Count)?, shift.value_of(Kind::Offset)?))
     }
 }
 

@@ -1,11 +1,11 @@
-//! The shared offset board of document 01 with requests 2.1 to 2.4 of document
-//! 02, read independently and written plainly: safe Rust, std only. Records and
-//! matching lie below the board and policies, which lie below the seat
-//! procedure and the program.
+//! The shared offset board of document 01 with requests 2.1 to 2.4 and 2.6 of
+//! document 02, read independently and written plainly: safe Rust, std only.
+//! Records and matching lie below the board and policies, which lie below the
+//! seat procedure and the program.
 //!
 //! `sys` and `flat` stand apart: they reach the proved library, for the tests
-//! that compare the two (tests/compare.rs) and for the benchmark (the program
-//! bench).
+//! that compare the two (tests/compare.rs, lists.rs and together.rs) and for
+//! the benchmark (the program bench).
 
 pub mod refusal;
 
@@ -18,6 +18,8 @@ pub mod records;
 pub mod board;
 
 pub mod policy;
+
+pub mod list;
 
 pub mod seat;
 

@@ -119,12 +119,14 @@ mod tests {
             ("84 00 01 02", "refused 3\n"),
             ("00 00 80 00", "refused 3\n"),
             ("03 01 02", "refused 1\n"),
-            ("04 01 04", "refused 1\n"),
+            ("04 01 05", "refused 1\n"),
+            ("03 01 04", "refused 1\n"),
             ("00 00 00", "refused 1\n"),
             ("10 00 00", "refused 1\n"),
             ("0F FF FF FF FF 0F 00", "refused 1\n"),
             ("04 01 00", "board 4 1 0\ntuples 0\n"),
             ("01 00 02", "board 1 0 2\ntuples 0\n"),
+            ("04 01 04", "board 4 1 4\ntuples 0\n"),
         ];
         for (script, text) in rows {
             assert_eq!(run(&hex(script)), text, "{script}");
@@ -149,10 +151,12 @@ mod tests {
             ("04 01 03 02", "board 4 1 3 2\ntuples 0\n"),
             ("0A 01 03 08", "board 10 1 3 8\ntuples 0\n"),
             ("01 00 03 08", "board 1 0 3 8\ntuples 0\n"),
-            // Under the other policies a record follows, and policy 4 needs no further number.
+            // Under the other policies a record follows, and policy 5 needs no further number.
             ("04 01 02 02", "board 4 1 2\n1 refused 2\ntuples 0\n"),
             ("04 01 00 02 01 01 04 07", "board 4 1 0\n1 done\ntuples 1\n"),
-            ("04 01 04 80 00", "refused 1\n"),
+            ("04 01 04 02", "board 4 1 4\n1 refused 2\ntuples 0\n"),
+            ("04 01 04 80 00", "board 4 1 4\n1 refused 3\ntuples 0\n"),
+            ("04 01 05 80 00", "refused 1\n"),
         ];
         for (script, text) in rows {
             assert_eq!(run(&hex(script)), text, "{script}");
@@ -173,6 +177,25 @@ mod tests {
             02 02 04 04 02 08 00 0E 11";
         let text = "board 4 1 3 2\n1 done\n2 done\n3 refused 7\n4 done\n5 refused 12\n6 refused 7\n\
             7 refused 13\n8 inserted\n9 found w2 c0 o1 s6\ntuples 4\n";
+        assert_eq!(run(&hex(script)), text);
+    }
+
+    #[test]
+    fn a_shared_list() {
+        let script = "04 01 04
+            01 04 05 04 03 08 01 09 09 0E 05 04 03 08 01 08 01 08 00 0C 50
+            02 04 05 04 03 08 01 09 09 0E 05 04 03 08 01 08 02 08 00 0C 51
+            01 04 05 04 03 08 01 09 09 0E 05 04 03 08 01 08 01 08 00 0C 50
+            02 04 05 04 03 08 03 09 09 0E 05 04 03 08 03 08 02 08 00 0C 51
+            02 04 05 04 03 08 02 09 09 0E 05 04 03 08 02 08 02 08 00 0C 00
+            02 04 05 04 03 08 02 09 09 0E 05 04 03 08 02 08 02 08 00 0C 51
+            03 01 05 04 03 08 03 08 03 08 00 0C 03
+            03 03 05 04 03 08 02 09 09 0E
+            03 02 05 04 03 08 02 09 09 0E
+            03 02 05 04 03 08 03 0A 09 0D";
+        let text =
+            "board 4 1 4\n1 inserted\n2 held w3 c1 c1 c0 o-40\n3 refused 7\n4 refused 7\n5 refused 7\n\
+            6 inserted\n7 refused 7\n8 refused 7\n9 found w3 c2 c2 c0 o40\n10 none\ntuples 2\n";
         assert_eq!(run(&hex(script)), text);
     }
 

@@ -314,7 +314,7 @@ mod tests {
         assert_eq!(start(4, 1, 2, 4, 0, 1), Ok(()));
         assert_eq!(start(3, 1, 2, 0, 8, 0), Err(Unsound));
         assert_eq!(start(4, 1, 3, 0, 8, 0), Err(Unsound));
-        for policy in 0..=1 {
+        for policy in [0, 1, 4, 5] {
             assert_eq!(start(4, 1, policy, 1, 0, 1), Err(Unsound));
             assert_eq!(start(4, 1, policy, 0, 8, 0), Err(Unsound));
         }
@@ -516,6 +516,7 @@ mod tests {
             states.push(Seat { process: 5, ..seat });
             states.push(Seat { round: 8, ..seat });
             states.push(Seat { config: Config { policy: 0, ..seat.config }, ..seat });
+            states.push(Seat { config: Config { policy: 4, ..seat.config }, ..seat });
             states.push(Seat { config: Config { t: u64::MAX, ..seat.config }, ..seat });
             states.push(Seat { config: Config { n: 3, ..seat.config }, ..seat });
             states.push(Seat { config: Config { n: 0, ..seat.config }, ..seat });
@@ -538,7 +539,7 @@ mod tests {
         for k in [0, 1, 2, 4, 9, u64::MAX] {
             states.push(Seat { config: Config { k, ..reading.config }, ..reading });
         }
-        for policy in [0, 1, 2, 4] {
+        for policy in [0, 1, 2, 4, 5] {
             states.push(Seat { config: Config { policy, ..reading.config }, ..reading });
         }
         for offset in [2, 4, 7, 200_001, 200_002] {

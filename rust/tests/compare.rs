@@ -5,12 +5,14 @@ mod common;
 
 use common::denials::{Cause, Denials};
 use common::dumps::{board_with, near_miss, Dumps};
+use common::lists::{near_call, odd_listed};
 use common::reached::{weak_decision, Flaw};
 use common::*;
 use reference::board::MOST_TUPLES;
 use reference::dump::LONGEST_DUMP;
 use reference::fields::{MOST_FIELDS, MOST_SEATS};
-use reference::policy::{BARE, DEFAULT, LAST_ROUND, STRONG, WEAK};
+use reference::list::LAST_POSITION;
+use reference::policy::{BARE, DEFAULT, LAST_ROUND, LIST, STRONG, WEAK};
 use reference::records::record_of;
 use reference::{flat, sys};
 use reference::{Answer, AnswerKind, Board, Call, Config, Field, Kind, Offset, Phase, Refusal, Seat, Tuple};
@@ -99,18 +101,19 @@ fn four_seats(policy: u64) -> Config {
     Config { n: 4, t: 1, policy, k: if policy == STRONG { 2 } else { 0 } }
 }
 
-/// Boards of every policy, some with the tuples that make a base call permitted; the last of them is no choice under policy 3.
+/// Boards of every policy, some with the tuples that make a base call permitted; the last of them is no choice under policy 3, and behind
+/// a gap under policy 4.
 fn base_boards() -> Vec<Board> {
     let mut boards = Vec::new();
-    for policy in 0..=3 {
-        let mut board = Board::fresh(four_seats(policy)).unwrap();
-        boards.push(board.clone());
+    for policy in 0..=4 {
+        boards.push(Board::fresh(four_seats(policy)).unwrap());
         let offsets = if policy == STRONG { [1, 3, 1, 2] } else { [0x50, 0x51, 0x50, 9] };
-        for (seat, offset) in (1..).zip(offsets) {
-            board.tuples[board.count] = Tuple::proposal(0, seat, offset);
-            board.count += 1;
-        }
-        boards.push(board);
+        let tuple = |(seat, offset)| match policy {
+            LIST => Tuple::listed(seat + u64::from(seat > 2), seat, 0, offset),
+            _ => Tuple::proposal(0, seat, offset),
+        };
+        let tuples: Vec<Tuple> = (1..).zip(offsets).map(tuple).collect();
+        boards.push(board_with(four_seats(policy), &tuples));
     }
     boards
 }
@@ -134,6 +137,9 @@ fn base_calls() -> Vec<Call> {
         Call::cas(1, Tuple::decision_template(0), Tuple::decision(0, 0, 11)),
         Call::cas(1, weak(None), weak(Some(3))),
         Call::cas(3, six, six),
+        Call::rdp(4, Tuple::listed_template(1)),
+        Call::cas(1, Tuple::listed_template(1), Tuple::listed(1, 1, 5, 3)),
+        Call::cas(2, Tuple::listed_template(3), Tuple::listed(3, 2, 5, 3)),
     ]
 }
 
@@ -183,6 +189,10 @@ fn odd_tuple(dice: &mut Dice, config: &Config) -> Tuple {
         dice.pick(&[0, 1, 1, 2, 3, 4, 5, MOST_SEATS, MOST_SEATS + 1, 4_294_967_295]),
     );
     let offset = near_offset(dice, config);
+    if config.policy == LIST || dice.one_in(20) {
+        let place = dice.pick(&[0, 0, 1, 2, 3, 4, 5, LAST_POSITION - 1, LAST_POSITION]);
+        return odd_listed(dice, config, place, 4);
+    }
     match dice.below(8) {
         0 => good_tuple(dice, true),
         1 => Tuple::decision(round, offset, dice.pick(&[0, 1, 3, 15, 31, Kind::Seats.last()])),
@@ -213,6 +223,9 @@ fn bearers(board: &Board, round: u64, offset: u64) -> u64 {
 fn aimed_call(dice: &mut Dice, board: &Board) -> Call {
     let n = board.config.n.clamp(1, MOST_SEATS);
     let seat = if dice.one_in(10) { dice.pick(&SEATS) } else { 1 + dice.below(n) as u32 };
+    if board.config.policy == LIST && !dice.one_in(8) {
+        return near_call(dice, board, seat);
+    }
     let (round, offset) = (dice.pick(&[0, 0, 0, 1, 7, 8]), near_offset(dice, &board.config));
     let own = if dice.one_in(6) { dice.below(MOST_SEATS + 2) } else { seat.into() };
     let within = (1 << if dice.one_in(8) { MOST_SEATS } else { n }) - 1;
@@ -244,7 +257,7 @@ fn odd_board(dice: &mut Dice) -> Board {
     let config = if dice.one_in(8) {
         odd_config(dice)
     } else {
-        let (n, policy) = (1 + dice.below(MOST_SEATS), dice.pick(&[0, 1, 2, 2, 2, 3, 3, 3]));
+        let (n, policy) = (1 + dice.below(MOST_SEATS), dice.pick(&[0, 1, 2, 2, 2, 3, 3, 3, 4, 4]));
         config_of(dice, n, policy)
     };
     let mut board = Board { config, count: 0, tuples: [Tuple::BLANK; MOST_TUPLES] };
@@ -284,9 +297,9 @@ fn boards_that_no_run_makes() {
     let mut dice = Dice::new(4);
     let (mut inputs, mut outcomes) = (0, [0usize; ANSWERS]);
     let mut denials = Denials::default();
-    // Decisions that are inserted or held under policies 2 and 3.
-    let mut decisions = [0usize; 2];
-    for _ in 0..30_000 {
+    // What is inserted or held under policies 2, 3 and 4.
+    let mut entries = [0usize; 3];
+    for _ in 0..36_000 {
         let mut board = odd_board(&mut dice);
         let policy = board.config.policy;
         for _ in 0..2 {
@@ -296,14 +309,14 @@ fn boards_that_no_run_makes() {
             denials.note(&before, &call, &answer);
             outcomes[refusal_of(&answer)] += 1;
             if matches!(answer.kind, AnswerKind::Inserted | AnswerKind::Held) && policy >= DEFAULT {
-                decisions[usize::from(policy == STRONG)] += 1;
+                entries[(policy - DEFAULT) as usize] += 1;
             }
             inputs += 1;
         }
     }
     count("calls on boards that no run makes", inputs, format!("answered, refused 1 to 13: {outcomes:?}"));
-    println!("         inserted or held under policies 2 and 3: {decisions:?}");
-    assert!(decisions.iter().all(|decided| *decided > 200), "{decisions:?}");
+    println!("         inserted or held under policies 2, 3 and 4: {entries:?}");
+    assert!(entries.iter().all(|often| *often > 200), "{entries:?}");
     assert!(outcomes[12] > 200 && outcomes[13] > 200, "{outcomes:?}");
 }
 
@@ -459,7 +472,7 @@ fn boards_with_dirty_places() {
         assert_eq!(compare_dump(&board, &vec![0xA5; room]), Err(Refusal::Unsound), "{board:?}");
         inputs += 1;
     };
-    for (policy, held) in (0..=3).flat_map(|policy| HELD.map(|held| (policy, held))) {
+    for (policy, held) in (0..=4).flat_map(|policy| HELD.map(|held| (policy, held))) {
         let config = four_seats(policy);
         let mut clean = Board::fresh(config).unwrap();
         clean.tuples[..held].fill_with(|| odd_tuple(&mut dice, &config));
@@ -481,7 +494,7 @@ fn boards_with_dirty_places() {
         for k in CHOICES.into_iter().filter(|k| *k != config.k) {
             try_board(&mut dice, Board { config: Config { k, ..config }, ..clean.clone() });
         }
-        let strange = |other: &u64| *other > STRONG || (*other == STRONG) != (policy == STRONG);
+        let strange = |other: &u64| *other > LIST || (*other == STRONG) != (policy == STRONG);
         for policy in POLICIES.into_iter().filter(strange) {
             try_board(&mut dice, Board { config: Config { policy, ..config }, ..clean.clone() });
         }
@@ -497,6 +510,7 @@ fn next_tuple(dice: &mut Dice, board: &Board) -> Tuple {
     let offset = if dice.one_in(20) { no_choice(dice, k) } else { likely_offset(dice, &board.config) };
     match policy {
         _ if dice.one_in(40) => odd_tuple(dice, &board.config),
+        LIST => odd_listed(dice, &board.config, board.count as u64, 16),
         WEAK => weak_decision(dice.below(LAST_ROUND + 1).max(round), offset),
         _ => match ripe(board, round) {
             Some(ripe) if dice.one_in(2) => next_decision(dice, board, round, ripe),
@@ -537,7 +551,7 @@ fn next_decision(dice: &mut Dice, board: &Board, round: u64, offset: u64) -> Tup
 
 /// A board of a few tuples.
 fn small_board(dice: &mut Dice) -> Board {
-    let (n, policy) = (dice.pick(&[1, 2, 3, 4, 4, 4, 5, 7]), dice.below(STRONG + 1));
+    let (n, policy) = (dice.pick(&[1, 2, 3, 4, 4, 4, 5, 7]), dice.below(LIST + 1));
     let mut board = Board::fresh(config_of(dice, n, policy)).expect("a sound set-up");
     for _ in 0..dice.below(11) {
         board.tuples[board.count] = next_tuple(dice, &board);
@@ -560,7 +574,7 @@ fn written_back(kind: &str, boards: usize, mut next: impl FnMut() -> Board) -> D
 #[test]
 fn small_boards_written_back() {
     let mut dice = Dice::new(15);
-    let dumps = written_back("small boards written back, and boards beside them", 16_000, || {
+    let dumps = written_back("small boards written back, and boards beside them", 20_000, || {
         let board = small_board(&mut dice);
         if dice.one_in(2) {
             near_miss(&mut dice, &board)
@@ -568,10 +582,11 @@ fn small_boards_written_back() {
             board
         }
     });
-    for policy in [BARE, WEAK, DEFAULT, STRONG] {
+    for policy in [BARE, WEAK, DEFAULT, STRONG, LIST] {
         dumps.assert_came(policy, 25);
     }
     dumps.assert_each(WEAK, &Flaw::UNDER_1, 25);
+    dumps.assert_each(LIST, &Flaw::UNDER_4, 25);
     dumps.assert_each(DEFAULT, &Flaw::UNDER_2_AND_3, 5);
     dumps.assert_each(DEFAULT, &Flaw::UNDER_2, 5);
     dumps.assert_each(STRONG, &Flaw::UNDER_2_AND_3, 5);
@@ -582,7 +597,7 @@ fn small_boards_written_back() {
 fn boards_that_no_run_makes_written_back() {
     let mut dice = Dice::new(16);
     let dumps = written_back("boards that no run makes written back", 4_000, || odd_board(&mut dice));
-    for policy in [BARE, WEAK, DEFAULT, STRONG] {
+    for policy in [BARE, WEAK, DEFAULT, STRONG, LIST] {
         dumps.assert_came(policy, 1);
     }
     let dumps = written_back("boards of a round written back", 3_000, || {
@@ -895,12 +910,13 @@ fn numbers_that_are_no_case() {
 fn set_ups_of_scripts() {
     let mut dice = Dice::new(7);
     let mut inputs = 0;
-    let numbers: [&[u8]; 20] = [
+    let numbers: [&[u8]; 21] = [
         &[0],
         &[1],
         &[2],
         &[3],
         &[4],
+        &[5],
         &[8],
         &[9],
         &[10],

@@ -1,34 +1,21 @@
 //! Demand 3 on random runs under policies 2 and 3: following seats, strays that
-//! call anything, any order. And the record reader on random bytes.
+//! call anything, any order. The list of policy 4 on such runs: seats that race
+//! for its positions hold the same sums. And the record reader on random bytes.
+
+mod common;
 
 use std::collections::HashMap;
 
+use common::denials::Denials;
+use common::lists::{Cause, Race};
+use common::{config_of, Dice};
 use reference::fields::MOST_SEATS;
-use reference::policy::{DEFAULT, LAST_ROUND, STRONG};
+use reference::list::LAST_POSITION;
+use reference::policy::{DEFAULT, LAST_ROUND, LIST, STRONG};
 use reference::records::{read_record, record_of};
 use reference::{
     Answer, AnswerKind, Board, Call, Config, Field, Kind, Offset, Phase, Refusal, Seat, Step, Tuple,
 };
-
-/// A small generator of numbers (xorshift).
-struct Dice(u64);
-
-impl Dice {
-    fn below(&mut self, limit: u64) -> u64 {
-        self.0 ^= self.0 << 13;
-        self.0 ^= self.0 >> 7;
-        self.0 ^= self.0 << 17;
-        (self.0 >> 16) % limit
-    }
-
-    fn one_in(&mut self, many: u64) -> bool {
-        self.below(many) == 0
-    }
-
-    fn pick(&mut self, choices: &[u64]) -> u64 {
-        choices[self.below(choices.len() as u64) as usize]
-    }
-}
 
 /// What a stray calls: mostly near the policy's forms, at times spoilt. Its
 /// offset is one of these, the mark, or some other.
@@ -215,7 +202,7 @@ fn run(dice: &mut Dice, policy: u64) -> (usize, [usize; 3]) {
 
 #[test]
 fn runs_with_strays() {
-    let mut dice = Dice(0x9E37_79B9_7F4A_7C15);
+    let mut dice = Dice::new(21);
     for policy in [DEFAULT, STRONG] {
         let (mut decided, mut denied) = (0, [0; 3]);
         for _ in 0..150 {
@@ -228,9 +215,43 @@ fn runs_with_strays() {
     }
 }
 
+/// Makes one run under policy 4; gives how many positions it filled, and how
+/// many sums were held against another's.
+fn run_of_a_list(dice: &mut Dice, denials: &mut Denials) -> [usize; 2] {
+    let n = 1 + dice.below(MOST_SEATS);
+    let mut board = Board::fresh(config_of(dice, n, LIST)).unwrap();
+    let mut race = Race::new(dice, &board.config);
+    for _ in 0..race.calls(dice) {
+        let call = race.call(dice, &board);
+        let before = board.clone();
+        let answer = Answer::from(board.call(&call));
+        assert_ne!(answer, Answer::from(Refusal::Full));
+        let inserted = usize::from(answer.kind == AnswerKind::Inserted);
+        assert_eq!(board.count, before.count + inserted);
+        if inserted == 0 {
+            assert_eq!(board, before);
+        }
+        denials.note(&before, &call, &answer);
+        race.hear(dice, &call, &answer);
+    }
+    [board.count, race.check(&board)]
+}
+
+#[test]
+fn runs_of_a_list() {
+    let mut dice = Dice::new(23);
+    let mut denials = Denials::default();
+    let runs: Vec<[usize; 2]> = (0..200).map(|_| run_of_a_list(&mut dice, &mut denials)).collect();
+    let whole = runs.iter().filter(|[filled, _]| *filled as u64 == LAST_POSITION).count();
+    let sums: usize = runs.iter().map(|[_, sums]| sums).sum();
+    assert!(whole > 20 && sums > 50_000, "{whole} {sums}");
+    assert!(denials.lists.inserted > 5_000 && denials.lists.held > 10_000);
+    denials.lists.assert_each(&Cause::ALL, 100);
+}
+
 #[test]
 fn a_record_that_reads_is_the_only_one() {
-    let mut dice = Dice(0x0123_4567_89AB_CDEF);
+    let mut dice = Dice::new(22);
     let likely = [0, 1, 2, 3, 4, 5, 6, 8, 9, 10, 12, 13, 14, 16, 17, 18, 0x80, 0x81, 0xFF];
     let offsets: Vec<u64> = (1..=100).collect();
     let (mut read, mut refused) = (0, 0);

@@ -1,7 +1,8 @@
 //! Whole runs by both, call by call and as scripts: following seats, driven by the procedure, among strays that aim at the decision.
 //! On each run under policies 2 and 3 demand 3's four properties are checked: agreement, validity, unanimity, a decision within n + 1
-//! calls. Under policy 3 every decision is a choice. Every board of the runs is written back as a script, and at their ends boards beside
-//! the last one are too.
+//! calls. Under policy 3 every decision is a choice. Under policy 4 seats race for the positions of the list, and all that have read the
+//! same positions hold the same sum. Every board of the runs is written back as a script, and at their ends boards beside the last one are
+//! too.
 
 mod common;
 
@@ -9,10 +10,14 @@ use std::collections::{BTreeMap, HashMap};
 
 use common::denials::{Cause, Denials};
 use common::dumps::{near_miss, Dumps};
+use common::lists::{self, Race};
+use common::reached::Flaw;
 use common::*;
 use reference::fields::MOST_SEATS;
-use reference::policy::{BARE, DEFAULT, STRONG, WEAK};
+use reference::list::LAST_POSITION;
+use reference::policy::{BARE, DEFAULT, LIST, STRONG, WEAK};
 use reference::records::record_of;
+use reference::script::LONGEST_SCRIPT;
 use reference::{
     Answer, AnswerKind, Board, Call, Config, Field, Kind, Offset, Phase, Refusal, Seat, Step, Tuple,
 };
@@ -120,7 +125,7 @@ impl Run {
         if self.config.policy > 0 {
             assert_ne!(answer, Answer::from(Refusal::Full), "no place from a fresh board");
         }
-        if self.config.policy >= DEFAULT {
+        if [DEFAULT, STRONG].contains(&self.config.policy) {
             self.note(call, &answer);
         }
         // Every board of the run: this call left another one.
@@ -394,6 +399,24 @@ fn run_of_others(dice: &mut Dice, counts: &mut Counts) {
     run.dump_beside(dice, counts);
 }
 
+/// Policy 4: seats that race for the positions of the list, among strays. Gives how many positions are filled, how many readings met
+/// another and how many sums were held against another's.
+fn run_of_a_list(dice: &mut Dice, counts: &mut Counts) -> [usize; 3] {
+    let n = 1 + dice.below(MOST_SEATS);
+    let mut run = Run::new(config_of(dice, n, LIST));
+    let mut race = Race::new(dice, &run.config);
+    for _ in 0..race.calls(dice) {
+        let call = race.call(dice, &run.board);
+        let answer = run.call(&call, counts);
+        race.hear(dice, &call, &answer);
+    }
+    let sums = race.check(&run.board);
+    assert!(run.script.len() <= LONGEST_SCRIPT, "{}", run.script.len());
+    run.script(dice, counts);
+    run.dump_beside(dice, counts);
+    [run.board.count, race.read_again, sums]
+}
+
 /// So many runs under a policy, and what was counted in them.
 fn runs_under(policy: u64, seed: u64, runs: usize) -> Counts {
     let mut dice = Dice::new(seed);
@@ -444,6 +467,27 @@ fn runs_under_policy_3() {
     assert!(decided > 150 && marks == 0 && raced > 15, "{decided} {marks} {raced}");
     denials.assert_each(STRONG, &IN_RUNS, 3);
     denials.assert_each(STRONG, &Cause::STRONG_ONLY, 5);
+}
+
+#[test]
+fn runs_under_policy_4() {
+    let mut dice = Dice::new(18);
+    let mut counts = Counts::default();
+    let runs: Vec<[usize; 3]> = (0..60).map(|_| run_of_a_list(&mut dice, &mut counts)).collect();
+    let whole = runs.iter().filter(|[filled, ..]| *filled as u64 == LAST_POSITION).count();
+    let [filled, met, sums] = [0, 1, 2].map(|place| runs.iter().map(|run| run[place]).sum::<usize>());
+    let Counts { calls, scripts, refused, .. } = counts;
+    println!("compared {calls:>7} calls of {} runs under policy 4: {refused} refused", runs.len());
+    counts.denials.print();
+    println!("         {filled:>7} positions filled, all 112 in {whole} runs; {met} readings and {sums} sums met others");
+    println!("compared {scripts:>7} scripts of these runs, whole, damaged, into short buffers");
+    counts.print_dumps();
+    counts.assert_dumps(LIST, 500, 5);
+    assert!(whole >= 5 && met > 5_000 && sums > 5_000, "{whole} {met} {sums}");
+    let lists = &counts.denials.lists;
+    assert!(lists.held > 3_000 && lists.found > 1_000 && lists.none > 200, "{} {}", lists.held, lists.found);
+    lists.assert_each(&lists::Cause::ALL, 10);
+    counts.misses.assert_each(LIST, &[Flaw::Misplaced], 50);
 }
 
 #[test]

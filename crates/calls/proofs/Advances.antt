@@ -11,11 +11,13 @@ use Rattle.calls.proofs.Effects.{Proposal, Decision, Out, Cas, Puts, St
 use Rattle.calls.proofs.Effects.Puts.{proposes as of-proposal, decided}
 use Rattle.calls.proofs.Effects.Step.{kept, put, full}
 use Rattle.calls.proofs.Keys.{at-most, key, keys-fit, keyAt, Apart, Unused, apart-more}
+use Rattle.calls.proofs.Walks.{Keeps}
 use Rattle.policy.proofs.DecisionLaws.{no-proposal}
 use Rattle.space.specs.declared.config.Config.{Config}
 use Rattle.space.specs.Bounds.{processes, rounds}
 use Rattle.space.specs.Configs.{sound}
 use Rattle.space.specs.Spaces.{spaceOf}
+use Rattle.space.proofs.ConfigLaws.{Deciding}
 use Rattle.space.proofs.SpaceRules.{stands}
 use Rattle.tuple.specs.declared.field.Tuple.{Tuple}
 use Rattle.tuple.specs.declared.field.Call.{Call}
@@ -124,6 +126,12 @@ advanced {config} {tuples} {call} tidy (put {how = how} puts answers same) =
     }
 advanced tidy (full puts none) = absurd (omega (arith, room tidy puts))
 
-pub advance : (config : Config) → sound config ≡ true → 1 ≤ config .policy → (tuples : List Tuple) → Tidy config tuples → (call : Call)
+pub advance : (config : Config) → sound config ≡ true → Deciding config → (tuples : List Tuple) → Tidy config tuples → (call : Call)
     → Advance config tuples call
-advance config safe strict tuples tidy call = advanced tidy (step config safe strict tuples call)
+advance config safe deciding tuples tidy call = advanced tidy (step config safe deciding tuples call)
+
+pub tidy-keeps : (config : Config) → sound config ≡ true → Deciding config → (tuples : List Tuple) → Tidy config tuples → (call : Call)
+    → Keeps (Tidy config) config tuples call
+tidy-keeps config safe deciding tuples tidy call =
+    let step = advance config safe deciding tuples tidy call in
+    record { next = step .next; space = step .space; kept = step .tidy; never = step .never }

@@ -1,27 +1,36 @@
--- Refusals 7, 12 and 13, refused calls and well-formed spaces: what a call answers and leaves, in document 01's words.
-use mathlib.Core.Path.{_≡_, refl, sym, ap, subst}
+-- Refusals 7, 12 and 13, refused calls, well-formed spaces and a permitted cas: what a call answers and leaves, in document 01's words.
+use mathlib.Core.Path.{_≡_, refl, sym, ap, _∙_, subst}
+use Prim.Native.Nat.{_≤_}
+use mathlib.Core.Bool.{true}
+use lib.ListN.{length}
 use native.Mathlib.Omega.{arith}
 use mathlib.Core.List.{List}
-use borrow.Author.Tests.{le-leb}
+use borrow.Author.Tests.{lt-ltb, le-ltb, le-leb}
 use Rattle.calls.specs.declared.change.Change.{Change}
 use Rattle.calls.specs.declared.change.Change.the-variants.{Keep}
 use Rattle.calls.specs.declared.turn.Applied.{Applied}
 use Rattle.calls.specs.Changes.{carriedOut}
-use Rattle.calls.specs.Laws.{Denied, DeniedRule, Unchanged, Kept}
-use Rattle.calls.specs.Turns.{firstRefusal, judged, applied}
+use Rattle.calls.specs.Laws.{Denied, DeniedRule, Unchanged, Kept, CasRules}
+use Rattle.calls.specs.Effects.{casEffect, effect}
+use Rattle.calls.specs.Turns.{firstRefusal, judged, carriedBy, applied}
 use Rattle.calls.proofs.CallSteps.{Puts, Moves, moves, denial-late, denial-never, Steps, formed-bounded, steps}
 use Rattle.calls.proofs.RunSteps.{next, run-tidy, run-formed}
 use Rattle.policy.specs.Laws.{Denial}
-use Rattle.policy.specs.Policies.{verdict}
+use Rattle.policy.specs.declared.verdicts.Verdict.the-variants.{Permit}
+use Rattle.policy.specs.Policies.{verdictOn, verdict}
 use Rattle.space.specs.declared.space.Space.{Space}
 use Rattle.space.specs.Configs.{known}
-use Rattle.space.specs.Spaces.{held}
+use Rattle.space.specs.Spaces.{held, wellFormed}
 use Rattle.space.proofs.SpaceRules.{formed-sound, held-lawful}
 use Rattle.tuple.specs.declared.field.Tuple.{Tuple}
 use Rattle.tuple.specs.declared.field.Call.{Call}
+use Rattle.tuple.specs.declared.fault.Fault.the-variants.{Absent}
 use Rattle.tuple.specs.declared.refusal.Refusal.{Refusal}
 use Rattle.tuple.specs.declared.reply.Outcome.{Outcome}
 use Rattle.tuple.specs.declared.reply.Outcome.the-variants.{Refused}
+use Rattle.tuple.specs.Bounds.{capacity}
+use Rattle.tuple.specs.Faults.{callFault}
+use Rattle.tuple.specs.Matching.{oldestOf}
 use Rattle.tuple.specs.Refusals.{numberOf, refusal}
 
 -- a call that is obeyed is refused 8 or not at all, and refused it leaves the tuples
@@ -63,3 +72,23 @@ pub kept : Kept
 kept space call tidy formed =
     let run = next {call = call} (record { tuples = held space; lawful = held-lawful space formed; same = sym tidy }) .run in
     (run-tidy run, run-formed (formed-sound space formed) run)
+
+-- ---- a call that is permitted
+
+-- a call without fault by one of 1 to n that is permitted on a well-formed space does what it does to the tuples
+pub permitted-applied : (space : Space) (call : Call) → wellFormed space ≡ true → callFault call ≡ Absent → (1 ≤ call .process) × (call .process ≤ space .config .n)
+    → verdictOn (space .config) (held space) call ≡ Permit → applied space call ≡ carriedBy space call (effect (held space) call)
+unfolding applied judged firstRefusal verdict known
+permitted-applied space call formed faultless member permitted =
+    rw (formed, formed-bounded space formed, faultless, le-leb 1 (call .process) (member .0), le-leb (call .process) (space .config .n) (member .1), permitted)
+
+pub cas-rules : CasRules
+unfolding effect
+cas-rules space call asked =
+    let does : applied space call ≡ carriedBy space call (casEffect (held space) (oldestOf (held space) (call .template))) =
+    permitted-applied space call (asked .formed) (asked .sound) (asked .known) (asked .permitted) ∙ rw (asked .code) refl in
+    record {
+      held-there = λ i at. ap (λ (a : Applied). a .reply) does ∙ rw at refl;
+      inserted = λ none room. ap (λ (a : Applied). a .reply .outcome) does ∙ rw (none, lt-ltb (length (held space)) capacity room) refl;
+      full = λ none many. ap (λ (a : Applied). a .reply .outcome) does ∙ rw (none, le-ltb (length (held space)) capacity many) refl;
+    }

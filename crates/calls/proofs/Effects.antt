@@ -30,7 +30,7 @@ use Rattle.space.specs.Members.{within}
 use Rattle.space.specs.Proposals.{offered, decidable, Placed}
 use Rattle.space.specs.Shapes.{processOf, proposedCode, roundOf, isProposal}
 use Rattle.space.specs.Spaces.{held, spaceOf}
-use Rattle.space.proofs.ConfigLaws.{sound-range, proposals-some, strict-proposals}
+use Rattle.space.proofs.ConfigLaws.{sound-range, proposals-some, Deciding, deciding-proposals}
 use Rattle.space.proofs.MemberLaws.{within-rule}
 use Rattle.space.proofs.SpaceRules.{held-of, formed-few}
 use Rattle.tuple.specs.declared.field.Tuple.{Tuple}
@@ -93,12 +93,12 @@ no-inp config strict tuples call code permitted =
     let denied = inp-rule config tuples call strict code in
     let z : _≡_ {A = ℕ} 0 1 = cc in omega arith
 
-module _ (config : Config) (safe : sound config ≡ true) (strict : 1 ≤ config .policy) (tuples : List Tuple) (call : Call) (permitted : verdictOn config tuples call ≡ Permit) where
+module _ (config : Config) (safe : sound config ≡ true) (deciding : Deciding config) (tuples : List Tuple) (call : Call) (permitted : verdictOn config tuples call ≡ Permit) where
   by-policy : {X : Type 0} → (config .policy ≡ 1 → WeakCall call → X) → (hasProposals config ≡ true → X) → X
   by-policy one rests =
       cases (eqb (config .policy) 1)
       (λ e. let weak = eqb-true (config .policy) 1 e in one weak (weak-rule config tuples call weak .0 permitted))
-      (λ e. rests (strict-proposals config safe strict (eqb-false (config .policy) 1 e)))
+      (λ e. rests (deciding-proposals config deciding (eqb-false (config .policy) 1 e)))
 
   puts-out : (1 ≤ call .process) × (call .process ≤ config .n) → call .code ≡ out → Out config tuples call
   puts-out known code =
@@ -153,12 +153,12 @@ module _ (config : Config) (safe : sound config ≡ true) (strict : 1 ≤ config
 
 -- ---- what a call does
 
-module _ (config : Config) (safe : sound config ≡ true) (strict : 1 ≤ config .policy) (tuples : List Tuple) (call : Call) where
+module _ (config : Config) (safe : sound config ≡ true) (deciding : Deciding config) (tuples : List Tuple) (call : Call) where
   -- a call that is obeyed
   module _ (known : (1 ≤ call .process) × (call .process ≤ config .n)) (permitted : verdictOn config tuples call ≡ Permit) where
     asked : {how : Outcome} → Enters tuples call how → Puts config tuples call how
-    asked (by-out e) = proposes (puts-out config safe strict tuples call permitted known e)
-    asked (by-cas e none) = decided (puts-cas config safe strict tuples call permitted e none)
+    asked (by-out e) = proposes (puts-out config safe deciding tuples call permitted known e)
+    asked (by-cas e none) = decided (puts-cas config safe deciding tuples call permitted e none)
 
     obeyed : {how : Outcome} {change : Change} {done : Applied} → Moves tuples call how change → done .reply .outcome ≡ how
         → done .space ≡ spaceOf config (changed tuples (call .entry) change) → Step config tuples call done
@@ -167,7 +167,7 @@ module _ (config : Config) (safe : sound config ≡ true) (strict : 1 ≤ config
     obeyed (reads e) answers same = kept (λ f. let z : _≡_ {A = ℕ} 0 1 = cc in omega arith) same
     obeyed lacks answers same = kept (λ f. let z : _≡_ {A = ℕ} 0 1 = cc in omega arith) same
     obeyed keeps answers same = kept (λ f. let z : _≡_ {A = ℕ} 0 1 = cc in omega arith) same
-    obeyed (takes i e inside) answers same = absurd (no-inp config strict tuples call e permitted)
+    obeyed (takes i e inside) answers same = absurd (no-inp config (deciding .0) tuples call e permitted)
 
   stepped : {done : Applied} → Steps (spaceOf config tuples) call done → Step config tuples call done
   unfolding carriedOut

@@ -20,7 +20,7 @@ use Rattle.space.specs.Spaces.{held, spaceOf}
 use Rattle.calls.proofs.Advances.{Kind, Tidy, tidy-none, Put, Advance, advance}
 use Rattle.calls.proofs.Advances.Kind.{proposal, decision}
 use Rattle.policy.proofs.DecisionLaws.{no-proposal}
-use Rattle.space.proofs.ConfigLaws.{proposals-some}
+use Rattle.space.proofs.ConfigLaws.{proposals-some, proposals-deciding}
 use Rattle.calls.proofs.Effects.{Puts}
 use Rattle.calls.proofs.Effects.Puts.{proposes, decided}
 use Rattle.calls.proofs.Keys.{key}
@@ -98,7 +98,7 @@ module _ (config : Config) (safe : sound config ≡ true) (rests : hasProposals 
   walk before [] tuples reached =
       (tuples, subst (λ (b : List Call). Reached config all b [] tuples) (sym (reached .split ∙ append-nil before)) reached)
   walk before (call ∷ rest) tuples reached =
-      let step = advance config safe (omega (arith, proposals-some config rests)) tuples (reached .tidy) call in
+      let step = advance config safe (proposals-deciding config rests) tuples (reached .tidy) call in
       walk (before ++ (call ∷ [])) rest (step .next) (reached-more reached step)
 
   start : Reached config all [] all []

@@ -4,10 +4,15 @@ pub mod CallSteps
 pub mod ChangeLaws
 pub mod EffectLaws
 pub mod Effects
+pub mod EveryListLaws
 pub mod JustifiedLaws
 pub mod Keys
+pub mod ListSteps
+pub mod ListingLaws
 pub mod NeverFullLaws
+pub mod ReadingLaws
 pub mod RunSteps
 pub mod SumLaws
 pub mod UncheckedLaws
+pub mod Walks
 pub mod WeakLaws

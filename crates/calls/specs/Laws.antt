@@ -4,11 +4,11 @@ use mathlib.Core.Logic.{_↔_}
 use mathlib.Core.Bool.{true}
 use mathlib.Core.List.{List, [], _∷_, _++_}
 use Prim.Native.Nat.{ℕ, _≤_, _<_}
-use lib.ListN.{length}
+use lib.ListN.{length, getD}
 use Rattle.calls.specs.declared.change.Change.the-variants.{Append, Remove}
 use Rattle.calls.specs.Changes.{without, carriedOut}
 use Rattle.calls.specs.Turns.{applied}
-use Rattle.policy.specs.declared.verdicts.Verdict.the-variants.{Refuse}
+use Rattle.policy.specs.declared.verdicts.Verdict.the-variants.{Permit, Refuse}
 use Rattle.policy.specs.Laws.{Denial}
 use Rattle.policy.specs.Policies.{verdictOn}
 use Rattle.space.specs.declared.config.Config.{Config}
@@ -17,10 +17,13 @@ use Rattle.space.specs.Spaces.{held, spaceOf, wellFormed, Tidy}
 use Rattle.tuple.specs.declared.fault.Fault.the-variants.{Absent}
 use Rattle.tuple.specs.declared.field.Tuple.{Tuple}
 use Rattle.tuple.specs.declared.field.Call.{Call}
+use Rattle.tuple.specs.declared.matching.Found.the-variants.{At, Nowhere}
 use Rattle.tuple.specs.declared.refusal.Refusal.{Refusal}
-use Rattle.tuple.specs.declared.reply.Outcome.the-variants.{Refused}
+use Rattle.tuple.specs.declared.reply.Outcome.the-variants.{Inserted, Held, Refused}
 use Rattle.tuple.specs.Bounds.{capacity}
 use Rattle.tuple.specs.Faults.{callFault}
+use Rattle.tuple.specs.Fields.{cas, blankTuple}
+use Rattle.tuple.specs.Matching.{oldestOf}
 use Rattle.tuple.specs.Refusals.{refusal}
 
 -- what becomes of the tuples, carried out: out and an inserted cas append the entry, inp takes a tuple off and the rest keeps its order
@@ -49,3 +52,21 @@ Unchanged = (space : Space) (call : Call) (why : Refusal) → applied space call
 -- a call leaves of a well-formed space that is the one of its tuples such a space again
 abbrev pub Kept : Type 0
 Kept = (space : Space) (call : Call) → Tidy space → wellFormed space ≡ true → Tidy (applied space call .space) × (wellFormed (applied space call .space) ≡ true)
+
+-- ---- a cas that is permitted
+
+pub record Asked (space : Space) (call : Call) : Type 0 where
+  pub formed : wellFormed space ≡ true
+  pub sound : callFault call ≡ Absent
+  pub known : (1 ≤ call .process) × (call .process ≤ space .config .n)
+  pub code : call .code ≡ cas
+  pub permitted : verdictOn (space .config) (held space) call ≡ Permit
+
+-- held if a tuple matches, with the oldest; else inserted, or refused 8 where 128 tuples stand
+pub record CasRule (space : Space) (call : Call) : Type 0 where
+  pub held-there : (i : ℕ) → oldestOf (held space) (call .template) ≡ At i → applied space call .reply ≡ record { outcome = Held; tuple = getD (held space) i blankTuple }
+  pub inserted : oldestOf (held space) (call .template) ≡ Nowhere → length (held space) < 128 → applied space call .reply .outcome ≡ Inserted
+  pub full : oldestOf (held space) (call .template) ≡ Nowhere → 128 ≤ length (held space) → applied space call .reply .outcome ≡ Refused (refusal 8)
+
+abbrev pub CasRules : Type 0
+CasRules = (space : Space) (call : Call) → Asked space call → CasRule space call

@@ -3,7 +3,7 @@ use mathlib.Core.Path.{refl}
 use mathlib.Core.List.{[]}
 use lib.Count.{ones}
 use Rattle.dump.specs.Dumps as dumps
-use Rattle.dump.specs.Examples.{workedScript, worked, WorkedEnds, WorkedBytes, Rows}
+use Rattle.dump.specs.Examples.{workedScript, worked, WorkedEnds, WorkedBytes, ListedBytes, Rows}
 use Rattle.dump.specs.Appending as appending
 use Rattle.dump.proofs.ByteLaws.{small, small-bytes}
 use Rattle.calls.specs.Changes.{carriedOut}
@@ -11,6 +11,7 @@ use Rattle.calls.specs.Effects.{effect}
 use Rattle.calls.specs.Turns.{firstRefusal, judged, applied, turnsFrom, turns, lastOf}
 use Rattle.policy.specs.Default.{bearsBottom}
 use Rattle.policy.specs.Justified.{isOwnProposal, isFree, outVerdict, isDecisionCall, bearsOffset, bears, casVerdict, justified}
+use Rattle.policy.specs.Listing.{isListTemplate, isListCall, isNew, begins, follows, mayList, shared}
 use Rattle.policy.specs.Policies.{verdictOn, verdict}
 use Rattle.policy.specs.Shapes.{isWeakTemplate, isWeakEntry, isDecisionTemplate, isDecision}
 use Rattle.policy.specs.Weak.{isWeakCall, weak}
@@ -19,6 +20,7 @@ use Rattle.record.specs.Heads.{headOf}
 use Rattle.record.specs.Reading.{readNumber, valueAt, fieldAt, fieldsAt, tupleAt, partAt, partsAt, bodyAt, callAt}
 use Rattle.script.specs.Scripts.{configOf, setUpBytes, recordsBytes, recordsFrom, recordsAt, ranOn, ran}
 use Rattle.space.specs.Configs.{choiceSound, plainSound, sound, hasProposals, known}
+use Rattle.space.specs.Lists.{isListTuple, lists, isThere, isFilled, isListed}
 use Rattle.space.specs.Members.{beyond, within, every}
 use Rattle.space.specs.Proposals.{isChoice, offered, decidable, proposes, proposed, everyProposed}
 use Rattle.space.specs.Shapes.{isProposal}
@@ -34,6 +36,11 @@ pub worked-bytes : WorkedBytes
 unfolding dumps.dumpBytes dumps.dumpCalls appending.callOf appending.ownProcess appending.templateOf
     fieldBytes fieldsBytes tupleBytes partBytes callBytes setUpBytes recordsBytes known isProposal usesTemplate usesEntry groupsOf bytesOf
 worked-bytes = refl
+
+pub listed-bytes : ListedBytes
+unfolding dumps.dumpBytes dumps.dumpCalls appending.callOf appending.ownProcess
+    fieldBytes fieldsBytes tupleBytes partBytes callBytes setUpBytes recordsBytes known usesTemplate usesEntry groupsOf bytesOf
+listed-bytes = refl
 
 pub worked-ends : WorkedEnds
 unfolding ran ranOn configOf recordsAt recordsFrom readNumber numberAt numberFrom joined callAt bodyAt partsAt partAt tupleAt fieldsAt fieldAt valueAt headOf
@@ -57,6 +64,7 @@ unfolding dumps.dumpBytes dumps.dumpCalls dumps.writtenOf dumps.isReached dumps.
     carriedOut effect firstRefusal judged applied turnsFrom turns
     bearsBottom isOwnProposal isFree outVerdict isDecisionCall bearsOffset bears casVerdict justified isWeakCall weak verdictOn verdict
     isWeakTemplate isWeakEntry isDecisionTemplate isDecision
+    isListTemplate isListCall isNew begins follows mayList shared isListTuple lists isThere isFilled isListed
     fieldBytes fieldsBytes tupleBytes partBytes callBytes setUpBytes recordsBytes
     choiceSound plainSound sound hasProposals known beyond within every isChoice offered decidable proposes proposed everyProposed isProposal
     placeSound placesFrom bounded wellFormed freshOf

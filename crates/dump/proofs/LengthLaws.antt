@@ -1,18 +1,22 @@
 -- How long the script of a space is at most: of each record the most bytes, by what its call appends. From the lengths of records.
 use mathlib.Core.Path.{_≡_, refl, sym, ap, _∙_}
-use Prim.Native.Nat.{ℕ, zero, suc, _+_, _*_, _≤_, _<_}
+use Prim.Native.Nat.{ℕ, zero, suc, _+_, _*_, _/_, _≤_, _<_}
 use native.Mathlib.Nat.{mul-suc}
 use native.Mathlib.Omega.{arith}
 use mathlib.Core.Logic.{_⊎_, inl, inr}
 use mathlib.Core.Bool.{Bool, true, false, cond, and-eq-true-iff}
 use mathlib.Core.List.{List, [], _∷_, List·Memᴰ, List·Memᴰ·head, List·Memᴰ·tail}
 use lib.ListN.{length, take, drop, getD, length-append, length-take}
-use lib.Dec.{eqb}
-use borrow.Author.Tests.{eqb-true, eq-eqb, ne-eqb}
+use lib.Dec.{ltb, eqb}
+use borrow.Author.Tests.{ltb-true, ltb-false, eqb-true, eq-eqb, ne-eqb}
+use borrow.Table.Steps.{cases}
 use Rattle.dump.specs.Laws.{Appends}
 use Rattle.dump.proofs.ByteLaws.{Sound}
+use Rattle.dump.proofs.Templates.{template-faultless}
+use Rattle.policy.specs.Listing.{isListTemplate, positions}
 use Rattle.policy.specs.Shapes.{isWeakTemplate, isWeakEntry, isDecisionTemplate}
 use Rattle.policy.proofs.DecisionLaws.{decision-parts}
+use Rattle.policy.proofs.ListingLaws.{template-parts}
 use Rattle.record.specs.Heads.{headNumber}
 use Rattle.record.specs.Writing.{fieldBytes, fieldsBytes, tupleBytes, partBytes, callBytes}
 use Rattle.record.proofs.Length.{width-one, field-most, fields-most, tuple-most}
@@ -20,19 +24,23 @@ use Rattle.record.proofs.WrittenLaws.{bytes-defined, bytes-bare, tuple-length, 
 use Rattle.script.specs.Scripts.{setUpBytes, recordsBytes}
 use Rattle.space.specs.declared.config.Config.{Config}
 use Rattle.space.specs.Configs.{sound}
-use Rattle.space.proofs.ConfigLaws.{sound-range, sound-choices, proposals-some}
+use Rattle.space.specs.Lists.{isListTuple, positionOf, shiftCode}
+use Rattle.space.specs.Shapes.{processOf}
+use Rattle.space.proofs.ConfigLaws.{sound-range, sound-choices, Deciding, proposals-deciding}
+use Rattle.space.proofs.ListLaws.{list-parts}
 use Rattle.space.proofs.ShapeLaws.{four, proposal-parts}
 use Rattle.tuple.specs.declared.fault.Fault.the-variants.{Absent}
 use Rattle.tuple.specs.declared.field.Field.{Field}
 use Rattle.tuple.specs.declared.field.Tuple.{Tuple}
 use Rattle.tuple.specs.declared.field.Call.{Call}
-use Rattle.tuple.specs.Bounds.{places}
+use Rattle.tuple.specs.Bounds.{places, largestCount, largestCode}
 use Rattle.tuple.specs.Faults.{isDefined, fieldsFault, tupleFault, partFault, usesTemplate, usesEntry, callFault}
-use Rattle.tuple.specs.Fields.{word, count, offset, processSet, defined, wildcard, formal, decision, out, cas, blankField}
+use Rattle.tuple.specs.Fields.{word, count, offset, processSet, defined, wildcard, formal, decision, listing, out, cas, largestOf, blankField}
 use Rattle.tuple.specs.Shapes.{field, is, says}
+use Rattle.tuple.proofs.FieldLaws.{kind-state}
 use Rattle.tuple.proofs.NoFault.{SoundField, fields-sound, tuple-sound, call-sound}
-use Rattle.varint.specs.Writing.{bytesOf}
-use Rattle.varint.proofs.WritingLaws.{bytes-last}
+use Rattle.varint.specs.Writing.{bytesOf, widthOf}
+use Rattle.varint.proofs.WritingLaws.{bytes-last, bytes-step}
 
 -- ---- the set-up
 
@@ -49,23 +57,46 @@ set-up-bytes config safe =
       bytes-last (config .k) (omega (arith, sound-choices config safe)),
     )
 
+-- so they are three, and under policy 3 four
+module _ (config : Config) (safe : sound config ≡ true) where
+  pub set-up-three : (config .policy ≡ 3 → ⊥) → length (setUpBytes config) ≡ 3
+  set-up-three other = let none = ne-eqb (config .policy) 3 other in ap length (set-up-bytes config safe) ∙ rw none
+
+  pub set-up-most : length (setUpBytes config) ≤ 4
+  set-up-most =
+      let all = ap length (set-up-bytes config safe) in
+      cases (eqb (config .policy) 3) (λ three. omega (arith, rw three at all)) (λ other. omega (arith, rw other at all))
+
+-- ---- numbers
+
+pub width-step : (value : ℕ) → 128 ≤ value → value ≤ largestCount → widthOf value ≡ 1 + widthOf (value / 128)
+width-step value some few = omega (arith, ap length (bytes-step value some (omega arith)))
+
+width-over : (most value : ℕ) → value ≤ largestCount → widthOf (value / 128) ≤ most → widthOf value ≤ most + 1
+width-over most value few over =
+    cases (ltb value 128)
+    (λ e. omega (arith, width-one value (ltb-true value 128 e)))
+    (λ e. omega (arith, width-step value (ltb-false value 128 e) few))
+
+-- the code of an offset has at most three bytes
+code-most : (value : ℕ) → value ≤ largestCode → widthOf value ≤ 3
+code-most value few = width-over 2 value (omega arith) (width-over 1 (value / 128) (omega arith) (omega (arith, width-one (value / 128 / 128) (omega arith))))
+
 -- ---- fields
 
--- a field of a known kind and state
-pub kind-state : (kind state : ℕ) (f : Field) → is kind state f ≡ true → (f .kind ≡ kind) × (f .state ≡ state)
-kind-state kind state f h =
-    let parts = and-eq-true-iff (eqb (f .kind) kind) (eqb (f .state) state) .0 h in
-    (eqb-true _ _ (parts .0), eqb-true _ _ (parts .1))
-
--- the word of a decision has two bytes
-word-length : (f : Field) → says word decision f ≡ true → length (fieldBytes f) ≡ 2
-word-length f h =
-    let parts = and-eq-true-iff (is word defined f) (eqb (f .value) decision) .0 h in
-    let head = kind-state word defined f (parts .0) in
-    let value : f .value ≡ decision = eqb-true _ _ (parts .1) in
+-- a field with a value has a head of one byte before it
+pub value-length : (kind : ℕ) (f : Field) → is kind defined f ≡ true → kind ≤ processSet → length (fieldBytes f) ≡ 1 + widthOf (f .value)
+value-length kind f h low =
+    let head = kind-state kind defined f h in
     let here : isDefined f ≡ true = rw (head .1) refl in
-    ap length (sym (bytes-defined f here)) ∙ length-append (bytesOf (headNumber f)) (bytesOf (f .value))
-    ∙ omega (arith, width-one (headNumber f) (omega arith), width-one (f .value) (omega arith))
+    ap length (sym (bytes-defined f here)) ∙ length-append (bytesOf (headNumber f)) (bytesOf (f .value)) ∙ omega (arith, width-one (headNumber f) (omega arith))
+
+-- a word that has a meaning has two bytes
+word-length : (value : ℕ) (f : Field) → says word value f ≡ true → value ≤ listing → length (fieldBytes f) ≡ 2
+word-length value f h low =
+    let parts = and-eq-true-iff (is word defined f) (eqb (f .value) value) .0 h in
+    let same : f .value ≡ value = eqb-true _ _ (parts .1) in
+    omega (arith, value-length word f (parts .0) (omega arith), width-one (f .value) (omega arith))
 
 -- a field without a value has one
 bare-length : (kind state : ℕ) (f : Field) → is kind state f ≡ true → kind ≤ processSet → 1 ≤ state → state ≤ formal → length (fieldBytes f) ≡ 1
@@ -112,7 +143,7 @@ module _ (tuple : Tuple) (long : length (tuple .fields) ≡ places) (few : tuple
   unfolding fieldsBytes
   none-left i end = ap length (fields-end tuple i end)
 
--- the template of a decision: its word, its round, and one or two fields without a value
+-- a template: of a decision its word, its round, and one or two fields without a value; of a list tuple its word, its position, and three
 module _ (template : Tuple) (long : length (template .fields) ≡ places) (h : tupleFault false template ≡ Absent) where
   few : template .count ≤ places
   few = tuple-sound false template h .few
@@ -133,7 +164,7 @@ module _ (template : Tuple) (long : length (template .fields) ≡ places) (h : t
         next template long few 1 (omega arith),
         next template long few 2 (omega arith),
         none-left template long few 3 (omega arith),
-        word-length (field template 0) (parts .1),
+        word-length decision (field template 0) (parts .1) (omega arith),
         round-most (omega arith),
         bare-length offset formal (field template 2) (parts .3) (omega arith) (omega arith) (omega arith),
       )
@@ -153,11 +184,65 @@ module _ (template : Tuple) (long : length (template .fields) ≡ places) (h : t
         next template long few 2 (omega arith),
         next template long few 3 (omega arith),
         none-left template long few 4 (omega arith),
-        word-length (field template 0) (parts .1),
+        word-length decision (field template 0) (parts .1) (omega arith),
         round-most (omega arith),
         bare-length offset formal (field template 2) (parts .3) (omega arith) (omega arith) (omega arith),
         bare-length processSet wildcard (field template 3) (last .1) (omega arith) (omega arith) (omega arith),
       )
+
+  list-template-most : isListTemplate template ≡ true → positionOf template ≤ positions → length (tupleBytes template) ≤ 8
+  list-template-most shape low =
+      let asks = template-parts template shape in
+      let counted = asks .counted in
+      omega (
+        arith,
+        tuple-length template,
+        width-one (template .count) (omega arith),
+        next template long few 0 (omega arith),
+        next template long few 1 (omega arith),
+        next template long few 2 (omega arith),
+        next template long few 3 (omega arith),
+        next template long few 4 (omega arith),
+        none-left template long few 5 (omega arith),
+        word-length listing (field template 0) (asks .named) (omega arith),
+        value-length count (field template 1) (asks .position) (omega arith),
+        width-one (positionOf template) (omega arith),
+        bare-length count wildcard (field template 2) (asks .process) (omega arith) (omega arith) (omega arith),
+        bare-length count wildcard (field template 3) (asks .serial) (omega arith) (omega arith) (omega arith),
+        bare-length offset formal (field template 4) (asks .shift) (omega arith) (omega arith) (omega arith),
+      )
+
+-- a list tuple: its position and its process have one byte each, its serial five at most, and its shift three
+list-tuple-most : (tuple : Tuple) → length (tuple .fields) ≡ places → tupleFault true tuple ≡ Absent → isListTuple tuple ≡ true
+    → positionOf tuple ≤ positions → processOf tuple < 128 → length (tupleBytes tuple) ≤ 17
+unfolding largestOf
+list-tuple-most tuple long h shape low short =
+    let parts = list-parts tuple shape in
+    let counted = parts .counted in
+    let sound = tuple-sound true tuple h in
+    let at : (i : ℕ) → i < 5 → SoundField true (field tuple i) = λ i below. sound-at true (tuple .count) (tuple .fields) i (sound .fields) (omega arith) (omega arith) in
+    let head = kind-state offset defined (field tuple 4) (parts .shift) in
+    let here : isDefined (field tuple 4) ≡ true = rw (head .1) refl in
+    let code : shiftCode tuple ≤ largestCode = rw (head .0) at (at 4 (omega arith) .small here) in
+    omega (
+      arith,
+      tuple-length tuple,
+      width-one (tuple .count) (omega arith),
+      next tuple long (sound .few) 0 (omega arith),
+      next tuple long (sound .few) 1 (omega arith),
+      next tuple long (sound .few) 2 (omega arith),
+      next tuple long (sound .few) 3 (omega arith),
+      next tuple long (sound .few) 4 (omega arith),
+      none-left tuple long (sound .few) 5 (omega arith),
+      word-length listing (field tuple 0) (parts .named) (omega arith),
+      value-length count (field tuple 1) (parts .position) (omega arith),
+      width-one (positionOf tuple) (omega arith),
+      value-length count (field tuple 2) (parts .process) (omega arith),
+      width-one (processOf tuple) short,
+      field-most (at 3 (omega arith)),
+      value-length offset (field tuple 4) (parts .shift) (omega arith),
+      code-most (shiftCode tuple) code,
+    )
 
 -- ---- records
 
@@ -176,42 +261,49 @@ module _ (call : Call) (short : call .process < 128) where
       let entry : length (partBytes (usesEntry (call .code)) (call .entry)) ≡ length (tupleBytes (call .entry)) = rw e in
       omega (arith, call-length call, width-one (call .process) short, width-one (call .code) (omega arith))
 
-module _ (call : Call) (faultless : callFault call ≡ Absent) where
-  entry-faultless : (call .code ≡ out) ⊎ (call .code ≡ cas) → tupleFault true (call .entry) ≡ Absent
-  unfolding partFault usesEntry
-  entry-faultless (inl e) = rw e at (call-sound call faultless .entry .fault)
-  entry-faultless (inr e) = rw e at (call-sound call faultless .entry .fault)
+entry-faultless : (call : Call) → callFault call ≡ Absent → (call .code ≡ out) ⊎ (call .code ≡ cas) → tupleFault true (call .entry) ≡ Absent
+unfolding partFault usesEntry
+entry-faultless call faultless (inl e) = rw e at (call-sound call faultless .entry .fault)
+entry-faultless call faultless (inr e) = rw e at (call-sound call faultless .entry .fault)
 
-  template-faultless : call .code ≡ cas → tupleFault false (call .template) ≡ Absent
-  unfolding partFault usesTemplate
-  template-faultless e = rw e at (call-sound call faultless .template .fault)
-
--- the most bytes of a record that appends a tuple: six counts of five bytes under policy 0; a decision under the others
+-- the most bytes of a record that appends a tuple: six counts of five bytes under policy 0, a list tuple under policy 4, and a decision under the others
 abbrev pub recordMost : Config → ℕ
-recordMost config = cond (eqb (config .policy) 0) 39 38
+recordMost config = cond (eqb (config .policy) 0) 39 (cond (eqb (config .policy) 4) 27 38)
 
-strict-most : (config : Config) (n : ℕ) → 1 ≤ config .policy → n ≤ 38 → n ≤ recordMost config
-strict-most config n strict few = let other = ne-eqb (config .policy) 0 (λ e. omega arith) in rw other few
+pub bare-most : (config : Config) → config .policy ≡ 0 → recordMost config ≡ 39
+bare-most config none = rw (eq-eqb (config .policy) 0 none)
 
-pub record-most : (config : Config) (tuple : Tuple) (call : Call) → Sound call → call .process < 128 → Appends config tuple call → length (callBytes call) ≤ recordMost config
-record-most config tuple call sound short (Appends.bare none by) =
-    let entry = tuple-most true (call .entry) (entry-faultless call (sound .faultless) (inl (by .code))) in
-    let bare = eq-eqb (config .policy) 0 none in
-    rw bare (omega (arith, out-length call short (by .code)))
-record-most config tuple call sound short (Appends.proposal rests shape by) =
-    let counted : call .entry .count ≡ 4 = ap (λ (t : Tuple). t .count) (by .entry) ∙ proposal-parts tuple shape .0 in
-    let entry = counted-most 4 (call .entry) counted (omega arith) (entry-faultless call (sound .faultless) (inl (by .code))) in
-    strict-most config _ (omega (arith, proposals-some config rests)) (omega (arith, out-length call short (by .code)))
-record-most config tuple call sound short (Appends.weak one shape by) =
-    let counted : call .entry .count ≡ 3 = ap (λ (t : Tuple). t .count) (by .entry) ∙ weak-count tuple shape in
-    let entry = counted-most 3 (call .entry) counted (omega arith) (entry-faultless call (sound .faultless) (inr (by .code))) in
-    let template = weak-most (call .template) (sound .typed .template) (template-faultless call (sound .faultless) (by .code)) (by .template) in
-    strict-most config _ (omega arith) (omega (arith, cas-length call short (by .code)))
-record-most config tuple call sound short (Appends.decision rests shape by) =
-    let counted : call .entry .count ≡ 4 = ap (λ (t : Tuple). t .count) (by .entry) ∙ decision-parts tuple shape .0 in
-    let entry = counted-most 4 (call .entry) counted (omega arith) (entry-faultless call (sound .faultless) (inr (by .code))) in
-    let template = decision-most (call .template) (sound .typed .template) (template-faultless call (sound .faultless) (by .code)) (by .template) in
-    strict-most config _ (omega (arith, proposals-some config rests)) (omega (arith, cas-length call short (by .code)))
+pub deciding-most : (config : Config) → Deciding config → recordMost config ≡ 38
+deciding-most config decides = rw (ne-eqb (config .policy) 0 (λ e. omega arith), ne-eqb (config .policy) 4 (λ e. omega arith))
+
+pub listing-most : (config : Config) → config .policy ≡ 4 → recordMost config ≡ 27
+listing-most config is-four = rw (ne-eqb (config .policy) 0 (λ e. omega arith), eq-eqb (config .policy) 4 is-four)
+
+module _ (config : Config) (tuple : Tuple) (call : Call) (sound : Sound call) (short : call .process < 128) (low : config .policy ≡ 4 → positionOf tuple ≤ positions) where
+  pub record-most : Appends config tuple call → length (callBytes call) ≤ recordMost config
+  record-most (Appends.bare none by) =
+      let entry = tuple-most true (call .entry) (entry-faultless call (sound .faultless) (inl (by .code))) in
+      omega (arith, bare-most config none, out-length call short (by .code))
+  record-most (Appends.proposal rests shape by) =
+      let counted : call .entry .count ≡ 4 = ap (λ (t : Tuple). t .count) (by .entry) ∙ proposal-parts tuple shape .0 in
+      let entry = counted-most 4 (call .entry) counted (omega arith) (entry-faultless call (sound .faultless) (inl (by .code))) in
+      omega (arith, deciding-most config (proposals-deciding config rests), out-length call short (by .code))
+  record-most (Appends.weak one shape by) =
+      let counted : call .entry .count ≡ 3 = ap (λ (t : Tuple). t .count) (by .entry) ∙ weak-count tuple shape in
+      let entry = counted-most 3 (call .entry) counted (omega arith) (entry-faultless call (sound .faultless) (inr (by .code))) in
+      let template = weak-most (call .template) (sound .typed .template) (template-faultless call (sound .faultless) (by .code)) (by .template) in
+      omega (arith, deciding-most config (omega arith, omega arith), cas-length call short (by .code))
+  record-most (Appends.decision rests shape by) =
+      let counted : call .entry .count ≡ 4 = ap (λ (t : Tuple). t .count) (by .entry) ∙ decision-parts tuple shape .0 in
+      let entry = counted-most 4 (call .entry) counted (omega arith) (entry-faultless call (sound .faultless) (inr (by .code))) in
+      let template = decision-most (call .template) (sound .typed .template) (template-faultless call (sound .faultless) (by .code)) (by .template) in
+      omega (arith, deciding-most config (proposals-deciding config rests), cas-length call short (by .code))
+  record-most (Appends.listing is-four shape by) =
+      let position : positionOf (call .entry) ≤ positions = omega (arith, ap positionOf (by .entry), low is-four) in
+      let process : processOf (call .entry) < 128 = omega (arith, ap processOf (by .entry), by .by) in
+      let entry = list-tuple-most (call .entry) (sound .typed .entry) (entry-faultless call (sound .faultless) (inr (by .code))) (ap isListTuple (by .entry) ∙ shape) position process in
+      let template = list-template-most (call .template) (sound .typed .template) (template-faultless call (sound .faultless) (by .code)) (by .template) (omega (arith, by .position, low is-four)) in
+      omega (arith, listing-most config is-four, cas-length call short (by .code))
 
 pub records-most : (most : ℕ) (calls : List Call) → ((call : Call) → List·Memᴰ call calls → length (callBytes call) ≤ most) → length (recordsBytes calls) ≤ most * length calls
 unfolding recordsBytes

@@ -1,41 +1,38 @@
 -- The most bytes of a script, a buffer that has room for every one, and the longest. From the lengths of records.
-use mathlib.Core.Path.{_≡_, refl, sym, ap, _∙_}
-use Prim.Native.Nat.{ℕ, zero, suc, _+_, _*_, _/_, _≤_, _<_}
+use mathlib.Core.Path.{_≡_, refl, ap, _∙_}
+use Prim.Native.Nat.{ℕ, zero, suc, _*_, _/_, _≤_, _<_}
 use native.Mathlib.Omega.{arith}
 use native.Mathlib.Nat.{mul-suc}
-use mathlib.Core.Bool.{true, false}
+use mathlib.Core.Bool.{true}
 use mathlib.Core.List.{List, [], _∷_, map, List·Memᴰ, List·Memᴰ·head, List·Memᴰ·tail}
 use lib.ListN.{length, replicate, length-append, length-map}
-use lib.Dec.{eqb}
-use borrow.Author.Tests.{ne-eqb}
 use borrow.Table.Steps.{cases}
 use Rattle.dump.specs.Appending.{callOf, outBy, processOne}
 use Rattle.dump.specs.Dumps.{dumpCalls, dumpBytes, isReached, writtenOf}
-use Rattle.dump.specs.Laws.{LengthMost, AlwaysRoom, Wide, LengthAttained}
+use Rattle.dump.specs.Laws.{LengthMost, AlwaysRoom, ListLengthMost, Wide, LengthAttained}
 use Rattle.dump.proofs.AnswerLaws.{unreached-answer, whole-answer, fits}
-use Rattle.dump.proofs.LengthLaws.{set-up-bytes, kind-state, next, none-left, out-length}
-use Rattle.dump.proofs.SoundCalls.{dump-most, mapped}
-use Rattle.dump.proofs.UnreachedLaws.{bare-call, bare-reached}
+use Rattle.dump.proofs.LengthLaws.{set-up-three, width-step, value-length, next, none-left, out-length}
+use Rattle.dump.proofs.ReachLaws.{call-bare}
+use Rattle.dump.proofs.SoundCalls.{dump-most, list-most, mapped}
+use Rattle.dump.proofs.UnreachedLaws.{bare-reached}
 use Rattle.record.specs.declared.writer.Recorded.the-variants.{Length}
-use Rattle.record.specs.Heads.{headNumber}
 use Rattle.record.specs.Writing.{fieldBytes, tupleBytes, callBytes}
 use Rattle.record.proofs.Length.{width-one}
-use Rattle.record.proofs.WrittenLaws.{bytes-defined, tuple-length}
+use Rattle.record.proofs.WrittenLaws.{tuple-length}
 use Rattle.script.specs.Scripts.{setUpBytes, recordsBytes}
 use Rattle.space.specs.declared.config.Config.{Config}
 use Rattle.space.specs.Configs.{sound}
 use Rattle.space.specs.Spaces.{spaceOf}
 use Rattle.space.proofs.SpaceRules.{Lawful, held-of, formed-of}
-use Rattle.tuple.specs.declared.field.Field.{Field}
 use Rattle.tuple.specs.declared.field.Tuple.{Tuple}
 use Rattle.tuple.specs.declared.field.Call.{Call}
 use Rattle.tuple.specs.Bounds.{places, largestCount}
 use Rattle.tuple.specs.Faults.{isDefined, knownHead, fieldFault, fieldsFault, tupleFault, placeBlank, restFrom, restBlank, isEntry}
 use Rattle.tuple.specs.Fields.{count, defined, largestOf}
 use Rattle.tuple.specs.Shapes.{field, is}
+use Rattle.tuple.proofs.FieldLaws.{kind-state}
 use Rattle.tuple.proofs.NoFault.{entry-small}
-use Rattle.varint.specs.Writing.{bytesOf, widthOf}
-use Rattle.varint.proofs.WritingLaws.{bytes-step}
+use Rattle.varint.specs.Writing.{widthOf}
 
 -- ---- the most
 
@@ -50,12 +47,14 @@ always-room space room typed formed not-refused enough =
     (λ r. whole-answer space room formed r (omega (arith, dump-most space typed (record { formed = formed; reached = r }))))
     (λ r. absurd (not-refused (unreached-answer space room formed r)))
 
+pub list-length-most : ListLengthMost
+list-length-most space room n typed is-four e =
+    let fit = fits space room n e in
+    (fit .same, omega (arith, fit .same, list-most space typed (record { formed = fit .formed; reached = fit .reached }) is-four))
+
 -- ---- the longest
 
 -- a number from 2^28 up has five bytes
-width-step : (value : ℕ) → 128 ≤ value → value ≤ largestCount → widthOf value ≡ 1 + widthOf (value / 128)
-width-step value some few = omega (arith, ap length (bytes-step value some (omega arith)))
-
 five-bytes : (value : ℕ) → 268_435_456 ≤ value → value ≤ largestCount → widthOf value ≡ 5
 five-bytes value some few =
     let second = value / 128 in
@@ -70,13 +69,6 @@ five-bytes value some few =
       width-one (fourth / 128) (omega arith),
     )
 
-wide-field : (f : Field) → is count defined f ≡ true → 268_435_456 ≤ f .value → f .value ≤ largestCount → length (fieldBytes f) ≡ 6
-wide-field f h some few =
-    let head = kind-state count defined f h in
-    let here : isDefined f ≡ true = rw (head .1) refl in
-    ap length (sym (bytes-defined f here)) ∙ length-append (bytesOf (headNumber f)) (bytesOf (f .value))
-    ∙ omega (arith, width-one (headNumber f) (omega arith), five-bytes (f .value) some few)
-
 module _ (tuple : Tuple) (entry : isEntry tuple ≡ true) (long : length (tuple .fields) ≡ places) (wide : Wide tuple) where
   wide-at : (i : ℕ) → i < 6 → length (fieldBytes (field tuple i)) ≡ 6
   unfolding largestOf
@@ -85,7 +77,7 @@ module _ (tuple : Tuple) (entry : isEntry tuple ≡ true) (long : length (tuple 
       let head = kind-state count defined (field tuple i) (parts .0) in
       let here : isDefined (field tuple i) ≡ true = rw (head .1) refl in
       let few : field tuple i .value ≤ largestCount = rw (head .0) at (entry-small tuple i entry (omega (arith, wide .six)) here) in
-      wide-field (field tuple i) (parts .0) (parts .1) few
+      omega (arith, value-length count (field tuple i) (parts .0) (omega arith), five-bytes (field tuple i .value) (parts .1) few)
 
   wide-tuple : length (tupleBytes tuple) ≡ 37
   wide-tuple =
@@ -130,14 +122,13 @@ module _ (config : Config) (tuples : List Tuple) (safe : sound config ≡ true) 
   calls-length call m =
       let of = mapped (callOf config) tuples m in
       let tuple = wide (of .0) (of .1) in
-      rw (of .2, bare-call config safe bare (of .0)) (wide-record (of .0) (tuple .0) (tuple .1) (tuple .2))
+      rw (of .2, call-bare config (of .0) bare) (wide-record (of .0) (tuple .0) (tuple .1) (tuple .2))
 
   full-length : length (dumpBytes (spaceOf config tuples)) ≡ 4_995
   unfolding dumpBytes dumpCalls
   full-length =
       let calls = map (callOf config) tuples in
-      let other : eqb (config .policy) 3 ≡ false = ne-eqb (config .policy) 3 (λ three. omega arith) in
-      let set-up : length (setUpBytes config) ≡ 3 = ap length (set-up-bytes config safe) ∙ rw other in
+      let set-up = set-up-three config safe (λ three. omega arith) in
       let records = records-length 39 calls calls-length in
       rw (held-of config tuples) (length-append (setUpBytes config) (recordsBytes calls) ∙ omega (arith, length-map tuples (callOf config)))
 

@@ -7,7 +7,7 @@ use mathlib.Core.Bool.{true, false, and-eq-true-iff, false≢true}
 use mathlib.Core.List.{List, [], _∷_, _++_, map, append-assoc, append-nil, List·Memᴰ, List·Memᴰ·not-nil, List·Memᴰ·cases-cons}
 use lib.ListN.{length}
 use lib.Dec.{eqb}
-use borrow.Author.Tests.{eqb-true, eqb-false}
+use borrow.Author.Tests.{eqb-true, eqb-false, eq-eqb, ne-eqb}
 use borrow.Table.Steps.{cases}
 use Rattle.dump.specs.Dumps.{isAppended, allAppended}
 use Rattle.dump.specs.Laws.{Appends, AppendAll}
@@ -18,14 +18,17 @@ use Rattle.calls.specs.Effects.{effect}
 use Rattle.calls.specs.Turns.{applied, carriedBy, turnsFrom, lastOf, after}
 use Rattle.calls.proofs.CallSteps.{Puts as Enters, Moves, moves, changed, moves-carried, moves-lawful, Steps, steps}
 use Rattle.policy.specs.declared.verdicts.Verdict.the-variants.{Permit}
+use Rattle.policy.specs.Laws.{ListCall}
 use Rattle.policy.specs.Policies.{verdictOn}
+use Rattle.policy.proofs.ListingLaws.{list-rule}
 use Rattle.policy.proofs.PolicyLaws.{weak-rule, decision-call}
 use Rattle.space.specs.declared.config.Config.{Config}
 use Rattle.space.specs.declared.space.Space.{Space}
 use Rattle.space.specs.Configs.{sound, hasProposals, known}
+use Rattle.space.specs.Lists.{isListTuple, positionOf}
 use Rattle.space.specs.Shapes.{isProposal, processOf}
 use Rattle.space.specs.Spaces.{held, spaceOf}
-use Rattle.space.proofs.ConfigLaws.{strict-proposals}
+use Rattle.space.proofs.ConfigLaws.{sound-range, Deciding, deciding-proposals}
 use Rattle.space.proofs.SpaceRules.{Lawful, held-of}
 use Rattle.tuple.specs.declared.fault.Fault.the-variants.{Absent}
 use Rattle.tuple.specs.declared.field.Tuple.{Tuple}
@@ -34,7 +37,7 @@ use Rattle.tuple.specs.declared.reply.Outcome.{Outcome}
 use Rattle.tuple.specs.declared.reply.Outcome.the-variants as outcome
 use Rattle.tuple.specs.Bounds.{capacity}
 use Rattle.tuple.specs.Faults.{callFault}
-use Rattle.tuple.specs.Fields.{out, cas}
+use Rattle.tuple.specs.Fields.{rdp, cas}
 
 -- ---- one call
 
@@ -83,10 +86,37 @@ module _ (config : Config) (tuples : List Tuple) (lawful : Lawful tuples) (call 
 
 -- ---- the call of a tuple
 
-pub call-entry : (config : Config) (tuple : Tuple) → callOf config tuple .entry ≡ tuple
-unfolding callOf
-call-entry config tuple =
-    cases (eqb (config .policy) 0) (λ e. rw e) (λ e. cases (isProposal tuple) (λ p. rw (e, p)) (λ p. rw (e, p)))
+-- the policies, as tuples are appended under them
+pub data Under (config : Config) : Type 0 where
+  bare : config .policy ≡ 0 → Under config
+  deciding : Deciding config → Under config
+  listing : config .policy ≡ 4 → Under config
+
+pub under : (config : Config) → sound config ≡ true → Under config
+under config safe =
+    cases (eqb (config .policy) 0) (λ e. bare (eqb-true _ _ e))
+    (λ e. cases (eqb (config .policy) 4) (λ f. listing (eqb-true _ _ f))
+    (λ f. deciding (omega (arith, eqb-false (config .policy) 0 e), omega (arith, eqb-false (config .policy) 4 f, sound-range config safe))))
+
+module _ (config : Config) (tuple : Tuple) where
+  pub call-entry : callOf config tuple .entry ≡ tuple
+  unfolding callOf
+  call-entry =
+      cases (eqb (config .policy) 0) (λ e. rw e)
+      (λ e. cases (eqb (config .policy) 4) (λ f. rw (e, f)) (λ f. cases (isProposal tuple) (λ p. rw (e, f, p)) (λ p. rw (e, f, p))))
+
+  pub call-bare : config .policy ≡ 0 → callOf config tuple ≡ outBy processOne tuple
+  unfolding callOf
+  call-bare none = rw (eq-eqb (config .policy) 0 none)
+
+  module _ (decides : Deciding config) where
+    pub call-proposal : isProposal tuple ≡ true → callOf config tuple ≡ outBy (ownProcess config tuple) tuple
+    unfolding callOf
+    call-proposal shape = rw (ne-eqb (config .policy) 0 (λ e. omega arith), ne-eqb (config .policy) 4 (λ e. omega arith), shape)
+
+    pub call-decision : isProposal tuple ≡ false → callOf config tuple ≡ casBy processOne (templateOf tuple) tuple
+    unfolding callOf
+    call-decision shape = rw (ne-eqb (config .policy) 0 (λ e. omega arith), ne-eqb (config .policy) 4 (λ e. omega arith), shape)
 
 -- an own process that is known is the proposal's
 own-known : (config : Config) (tuple : Tuple) → 1 ≤ ownProcess config tuple → ownProcess config tuple ≡ processOf tuple
@@ -94,41 +124,60 @@ unfolding ownProcess
 own-known config tuple some =
     cases (known config (processOf tuple)) (λ e. rw e) (λ e. let none : 1 ≤ 0 = rw e at some in absurd (omega arith))
 
-module _ (config : Config) (safe : sound config ≡ true) (tuples : List Tuple) (tuple : Tuple) {done : Applied} where
-  -- an out that is permitted is the proposal's own process's
-  appends-proposal : (config .policy ≡ 0 → ⊥) → eqb (config .policy) 0 ≡ false → isProposal tuple ≡ true → Entered config tuples (callOf config tuple) done
-      → Appends config tuple (callOf config tuple)
-  unfolding callOf
-  appends-proposal strict other shape in-space =
-      let call : Entered config tuples (outBy (ownProcess config tuple) tuple) done = rw (other, shape) at in-space in
-      let rests : hasProposals config ≡ true = strict-proposals config safe (omega arith)
-      (λ one. let weak = weak-rule config tuples (outBy (ownProcess config tuple) tuple) one .0 (call .permitted) in omega (arith, weak .code)) in
-      rw (other, shape) (Appends.proposal rests shape (record { by = own-known config tuple (call .known .0); code = refl; template = refl; entry = refl }))
+-- under policy 4 a call that appends its entry is a cas of the caller's own
+pub list-entered : (config : Config) → config .policy ≡ 4 → (tuples : List Tuple) (call : Call) {done : Applied} → Entered config tuples call done
+    → (call .code ≡ cas) × ListCall tuples call × (processOf (call .entry) ≡ call .process)
+list-entered config is-four tuples call in-space =
+    ⊎-elim (λ read. absurd (unread (in-space .enters) read)) (λ own. own) (list-rule config tuples call is-four .0 (in-space .permitted))
+  where
+    unread : {how : Outcome} → Enters tuples call how → call .code ≡ rdp → ⊥
+    unread (Enters.by-out e) read = omega arith
+    unread (Enters.by-cas e none) read = omega arith
 
-  -- a cas that is permitted has the two shapes on one round
-  appends-decision : (config .policy ≡ 0 → ⊥) → eqb (config .policy) 0 ≡ false → isProposal tuple ≡ false → Entered config tuples (callOf config tuple) done
-      → Appends config tuple (callOf config tuple)
-  unfolding callOf
-  appends-decision strict other shape in-space =
-      let made = casBy processOne (templateOf tuple) tuple in
-      let call : Entered config tuples made done = rw (other, shape) at in-space in
-      rw (other, shape)
-      (cases (eqb (config .policy) 1)
-      (λ e. let one = eqb-true (config .policy) 1 e in
-      let weak = weak-rule config tuples made one .0 (call .permitted) in
-      Appends.weak one (weak .entry) (record { by = refl; code = refl; template = weak .template; round = weak .same; entry = refl }))
-      (λ e. let rests = strict-proposals config safe (omega arith) (eqb-false (config .policy) 1 e) in
-      let shaped = decision-call config tuples made rests refl (call .permitted) in
-      Appends.decision rests (shaped .entry) (record { by = refl; code = refl; template = shaped .template; round = shaped .same; entry = refl })))
+module _ (config : Config) (tuples : List Tuple) (tuple : Tuple) {done : Applied} (in-space : Entered config tuples (callOf config tuple) done) where
+  module _ (decides : Deciding config) where
+    -- an out that is permitted is the proposal's own process's
+    appends-proposal : isProposal tuple ≡ true → Appends config tuple (callOf config tuple)
+    appends-proposal shape =
+        let same = call-proposal config tuple decides shape in
+        let made = outBy (ownProcess config tuple) tuple in
+        let call : Entered config tuples made done = rw same at in-space in
+        let rests : hasProposals config ≡ true = deciding-proposals config decides
+        (λ one. let weak = weak-rule config tuples made one .0 (call .permitted) in omega (arith, weak .code)) in
+        rw same (Appends.proposal rests shape (record { by = own-known config tuple (call .known .0); code = refl; template = refl; entry = refl }))
+
+    -- a cas that is permitted has the two shapes on one round
+    appends-decision : isProposal tuple ≡ false → Appends config tuple (callOf config tuple)
+    appends-decision shape =
+        let same = call-decision config tuple decides shape in
+        let made = casBy processOne (templateOf tuple) tuple in
+        let call : Entered config tuples made done = rw same at in-space in
+        rw same
+        (cases (eqb (config .policy) 1)
+        (λ e. let one = eqb-true (config .policy) 1 e in
+        let weak = weak-rule config tuples made one .0 (call .permitted) in
+        Appends.weak one (weak .entry) (record { by = refl; code = refl; template = weak .template; round = weak .same; entry = refl }))
+        (λ e. let rests = deciding-proposals config decides (eqb-false (config .policy) 1 e) in
+        let shaped = decision-call config tuples made rests refl (call .permitted) in
+        Appends.decision rests (shaped .entry) (record { by = refl; code = refl; template = shaped .template; round = shaped .same; entry = refl })))
+
+  -- under policy 4 one that is permitted has the two shapes on one position, and is the entry's own process's
+  appends-listed : config .policy ≡ 4 → Appends config tuple (callOf config tuple)
+  appends-listed is-four =
+      let made = list-entered config is-four tuples (callOf config tuple) in-space in
+      let list = made .1 in
+      let entry = call-entry config tuple in
+      Appends.listing is-four (ap isListTuple (sym entry) ∙ list .entry)
+      (record { by = sym (made .2) ∙ ap processOf entry; code = made .0; template = list .template; position = list .same ∙ ap positionOf entry; entry = entry })
 
   -- a tuple that its call appends is appended as document 02 says
-  pub appends-named : Entered config tuples (callOf config tuple) done → Appends config tuple (callOf config tuple)
-  unfolding callOf
-  appends-named in-space =
-      cases (eqb (config .policy) 0)
-      (λ e. rw e (Appends.bare (eqb-true (config .policy) 0 e) (record { by = refl; code = refl; template = refl; entry = refl })))
-      (λ e. let strict = eqb-false (config .policy) 0 e in
-      cases (isProposal tuple) (λ p. appends-proposal strict e p in-space) (λ p. appends-decision strict e p in-space))
+  pub appends-named : sound config ≡ true → Appends config tuple (callOf config tuple)
+  appends-named safe = by-policy (under config safe)
+    where
+      by-policy : Under config → Appends config tuple (callOf config tuple)
+      by-policy (bare none) = rw (call-bare config tuple none) (Appends.bare none (record { by = refl; code = refl; template = refl; entry = refl }))
+      by-policy (deciding decides) = cases (isProposal tuple) (appends-proposal decides) (appends-decision decides)
+      by-policy (listing is-four) = appends-listed is-four
 
 -- ---- the calls of the tuples, one after the other
 
@@ -162,7 +211,7 @@ module _ (config : Config) (safe : sound config ≡ true) where
       let call = callOf config tuple in
       let parts = and-eq-true-iff (isAppended (applied (spaceOf config before) call .reply .outcome)) _ .0 put in
       let here = entered config before lawful call (parts .0) in
-      let named = appends-named config safe before tuple here in
+      let named = appends-named config before tuple here safe in
       let entry = call-entry config tuple in
       let same : applied (spaceOf config before) call .space ≡ spaceOf config (before ++ (tuple ∷ [])) =
       here .same ∙ ap (λ (t : Tuple). spaceOf config (before ++ (t ∷ []))) entry in

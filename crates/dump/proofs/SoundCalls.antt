@@ -1,34 +1,37 @@
 -- The calls of a space that is refused neither 1 nor 14: each is one that the struct's types can hold, without fault, and appends its tuple.
-use mathlib.Core.Path.{_≡_, refl, sym, ap, subst}
-use Prim.Native.Nat.{ℕ, _*_, _≤_, _<_}
+use mathlib.Core.Path.{_≡_, refl, sym, ap, _∙_, subst}
+use Prim.Native.Nat.{ℕ, _+_, _*_, _≤_, _<_}
 use native.Mathlib.Omega.{arith}
 use native.Mathlib.Nat.{le-trans, mul-le-mul-left}
 use mathlib.Core.Logic.{⊎-elim}
-use mathlib.Core.Bool.{true, false}
+use mathlib.Core.Bool.{true}
 use mathlib.Core.List.{List, [], _∷_, map, List·Memᴰ, List·Memᴰ·head, List·Memᴰ·tail, List·Memᴰ·not-nil, List·Memᴰ·cases-cons}
 use lib.ListN.{length, getD, length-append, length-map, length-set, length-take}
 use lib.Dec.{eqb}
-use borrow.Author.Tests.{eqb-true, ne-eqb}
 use borrow.Table.Steps.{cases}
 use Rattle.dump.specs.Dumps.{dumpCalls, dumpBytes, dumpMost, isReached}
 use Rattle.dump.specs.Private.{Dumpable}
 use Rattle.dump.specs.Appending.{ownProcess, templateOf, callOf}
 use Rattle.dump.proofs.ByteLaws.{Sound}
 use Rattle.dump.proofs.HeldSteps.{no-tuple, tupleAt, callAt, inside}
-use Rattle.dump.proofs.LengthLaws.{set-up-bytes, recordMost, record-most, records-most}
-use Rattle.dump.proofs.ReachLaws.{Rebuilt, rebuilt}
+use Rattle.dump.proofs.LengthLaws.{set-up-three, set-up-most, recordMost, bare-most, deciding-most, listing-most, record-most, records-most}
+use Rattle.dump.proofs.ReachLaws.{Under, under, Rebuilt, rebuilt}
 use Rattle.calls.specs.Turns.{turns}
+use Rattle.calls.proofs.ListSteps.{Orderly, orderly-none, orderly-few, orderly-all, list-keeps}
 use Rattle.calls.proofs.RunSteps.{fresh-space, none-lawful}
+use Rattle.calls.proofs.Walks.{kept-after}
 use Rattle.record.specs.Writing.{callBytes, Typed}
 use Rattle.script.specs.Scripts.{setUpBytes, recordsBytes}
+use Rattle.policy.specs.Listing.{positions}
 use Rattle.space.specs.declared.config.Config.{Config}
 use Rattle.space.specs.declared.space.Space.{Space}
 use Rattle.space.specs.Configs.{sound, known}
+use Rattle.space.specs.Lists.{positionOf}
 use Rattle.space.specs.Shapes.{isProposal, processOf}
 use Rattle.space.specs.Spaces.{held}
 use Rattle.space.specs.Spaces as spaces
 use Rattle.space.proofs.ConfigLaws.{sound-range}
-use Rattle.space.proofs.SpaceRules.{formed-sound, formed-few, mem-take, stands}
+use Rattle.space.proofs.SpaceRules.{held-of, formed-sound, formed-few, mem-take, stands}
 use Rattle.tuple.specs.declared.fault.Fault.the-variants.{Absent}
 use Rattle.tuple.specs.declared.field.Tuple.{Tuple}
 use Rattle.tuple.specs.declared.field.Call.{Call}
@@ -54,9 +57,10 @@ unfolding callOf
 call-typed config safe tuple six =
     let range = sound-range config safe in
     cases (eqb (config .policy) 0) (λ e. rw e (record { process = omega arith; template = refl; entry = six }))
-    (λ e. cases (isProposal tuple)
-    (λ p. rw (e, p) (record { process = omega (arith, own-few config tuple); template = refl; entry = six }))
-    (λ p. rw (e, p) (record { process = omega arith; template = template-six tuple six; entry = six })))
+    (λ e. cases (eqb (config .policy) 4) (λ f. rw (e, f) (record { process = omega (arith, own-few config tuple); template = refl; entry = six }))
+    (λ f. cases (isProposal tuple)
+    (λ p. rw (e, f, p) (record { process = omega (arith, own-few config tuple); template = refl; entry = six }))
+    (λ p. rw (e, f, p) (record { process = omega arith; template = template-six tuple six; entry = six }))))
 
 -- ---- the calls
 
@@ -89,6 +93,14 @@ module _ (space : Space) (typed : spaces.Typed space) (dumpable : Dumpable space
       let same : tupleAt space i ≡ getD (held space) i blankTuple = held-tuple (space .count) (space .tuples) i no-tuple below (inside space typed (dumpable .formed) i below) in
       rw same (back .each _ (stands (held space) i short) .faultless)
 
+  -- under policy 4 the tuples held are a list in the order of its positions
+  orderly : space .config .policy ≡ 4 → Orderly (held space)
+  orderly is-four =
+      let config = space .config in
+      let run = kept-after config Orderly (list-keeps config is-four) (map (callOf config) (held space)) [] orderly-none in
+      let same : run .0 ≡ held space = sym (held-of config (run .0)) ∙ ap held (sym (run .2) ∙ back .left) ∙ held-of config (held space) in
+      subst Orderly same (run .1)
+
   -- ---- how long they are
 
   call-most : (call : Call) → List·Memᴰ call (dumpCalls space) → length (callBytes call) ≤ recordMost (space .config)
@@ -98,25 +110,37 @@ module _ (space : Space) (typed : spaces.Typed space) (dumpable : Dumpable space
       let tuple = of .0 in
       let told = back .each tuple (of .1) in
       let few : callOf (space .config) tuple .process < 128 = omega (arith, told .few, sound-range (space .config) safe) in
-      rw (of .2) (record-most (space .config) tuple (callOf (space .config) tuple) (sound-call tuple (of .1)) few (told .named))
+      let low : space .config .policy ≡ 4 → positionOf tuple ≤ positions = λ is-four. orderly-all (orderly is-four) tuple (of .1) .3 .most in
+      rw (of .2) (record-most (space .config) tuple (callOf (space .config) tuple) (sound-call tuple (of .1)) few low (told .named))
 
 module _ (space : Space) (typed : spaces.Typed space) (dumpable : Dumpable space) where
-  counted : length (dumpCalls space) ≤ capacity
-  unfolding dumpCalls
-  counted = let few = formed-few space (dumpable .formed) in simp (length-map, length-take) (omega arith)
+  abbrev config : Config
+  config = space .config
+
+  -- the set-up, and so many records of at most so many bytes
+  script-most : (many : ℕ) → length (held space) ≤ many → length (dumpBytes space) ≤ length (setUpBytes config) + recordMost config * many
+  unfolding dumpBytes dumpCalls
+  script-most many few =
+      let calls = dumpCalls space in
+      let records = records-most (recordMost config) calls (call-most space typed dumpable) in
+      let counted : length calls ≤ many = simp length-map (omega arith) in
+      omega (arith, length-append (setUpBytes config) (recordsBytes calls), le-trans records (mul-le-mul-left (recordMost config) counted))
+
+  pub list-most : config .policy ≡ 4 → length (dumpBytes space) ≤ 3_027
+  list-most is-four =
+      let most = script-most positions (orderly-few (orderly space typed dumpable is-four)) in
+      omega (arith, rw (listing-most config is-four) at most, set-up-three config (safe space typed dumpable) (λ three. omega arith))
 
   pub dump-most : length (dumpBytes space) ≤ dumpMost
-  unfolding dumpBytes
-  dump-most =
-      let config = space .config in
-      let records = records-most (recordMost config) (dumpCalls space) (call-most space typed dumpable) in
-      let few = mul-le-mul-left (recordMost config) counted in
-      let set-up = ap length (set-up-bytes config (formed-sound space (dumpable .formed))) in
-      let both = length-append (setUpBytes config) (recordsBytes (dumpCalls space)) in
-      cases (eqb (config .policy) 0)
-      (λ e. let other : eqb (config .policy) 3 ≡ false = ne-eqb (config .policy) 3 (λ three. omega (arith, eqb-true (config .policy) 0 e)) in
-      let most : length (recordsBytes (dumpCalls space)) ≤ 39 * capacity = rw e at (le-trans records few) in
-      omega (arith, rw other at set-up))
-      (λ e. let most : length (recordsBytes (dumpCalls space)) ≤ 38 * capacity = rw e at (le-trans records few) in
-      let start : length (setUpBytes config) ≤ 4 = cases (eqb (config .policy) 3) (λ three. omega (arith, rw three at set-up)) (λ other. omega (arith, rw other at set-up)) in
-      omega arith)
+  dump-most = by-policy (under config sound-config)
+    where
+      sound-config : sound config ≡ true
+      sound-config = safe space typed dumpable
+
+      all : length (dumpBytes space) ≤ length (setUpBytes config) + recordMost config * capacity
+      all = let few = formed-few space (dumpable .formed) in script-most capacity (simp length-take (omega arith))
+
+      by-policy : Under config → length (dumpBytes space) ≤ dumpMost
+      by-policy (Under.bare none) = omega (arith, rw (bare-most config none) at all, set-up-three config sound-config (λ three. omega arith))
+      by-policy (Under.deciding decides) = omega (arith, rw (deciding-most config decides) at all, set-up-most config sound-config)
+      by-policy (Under.listing is-four) = omega (arith, list-most is-four)

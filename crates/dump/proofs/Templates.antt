@@ -1,70 +1,50 @@
--- A template of a decision's round, without fault, is the decision with its offset open and its set any. From the tests of shapes and of unused parts.
-use mathlib.Core.Path.{_≡_, refl, sym, ap, _∙_}
-use Prim.Native.Nat.{ℕ, suc}
+-- The parts of a cas without fault; a template of a decision's round is then the decision with its offset open and its set any. From the tests of shapes
+-- and of unused parts.
+use mathlib.Core.Path.{_≡_, sym, ap, _∙_}
 use native.Mathlib.Omega.{arith}
 use mathlib.Core.Bool.{true, false, and-eq-true-iff}
 use mathlib.Core.List.{List, [], _∷_}
 use lib.ListN.{length, getD, set}
 use lib.Dec.{eqb}
-use borrow.Author.Tests.{eqb-true, ne-eqb}
+use borrow.Author.Tests.{eqb-true}
 use Rattle.dump.specs.Appending.{openOffset, anySet, templateOf}
-use Rattle.dump.proofs.LengthLaws.{kind-state}
 use Rattle.policy.specs.Shapes.{isWeakTemplate, isWeakEntry, isDecisionTemplate, isDecision}
 use Rattle.space.specs.Shapes.{roundOf}
 use Rattle.space.proofs.ShapeLaws.{four}
+use Rattle.tuple.specs.declared.fault.Fault.the-variants.{Absent}
 use Rattle.tuple.specs.declared.field.Field.{Field}
 use Rattle.tuple.specs.declared.field.Tuple.{Tuple}
+use Rattle.tuple.specs.declared.field.Call.{Call}
 use Rattle.tuple.specs.Bounds.{places}
-use Rattle.tuple.specs.Faults.{isDefined, placeBlank, restFrom}
-use Rattle.tuple.specs.Fields.{word, count, offset, processSet, defined, wildcard, formal, decision, blankField}
+use Rattle.tuple.specs.Faults.{tupleFault, partFault, usesTemplate, usesEntry, restFrom, restBlank, callFault}
+use Rattle.tuple.specs.Fields.{word, count, offset, processSet, defined, wildcard, formal, decision, cas, blankField}
 use Rattle.tuple.specs.Shapes.{field, is, says}
 use Rattle.tuple.proofs.Blanks.{rest-blank}
+use Rattle.tuple.proofs.FieldLaws.{field-says, same-field, open-field, used-blank, Six, view}
+use Rattle.tuple.proofs.FieldLaws.Six.{six}
+use Rattle.tuple.proofs.NoFault.{call-sound}
 
--- ---- six fields
+-- ---- the parts of a cas
 
-data Six : List Field → Type 0 where
-  six : (a b c d e f : Field) → Six (a ∷ b ∷ c ∷ d ∷ e ∷ f ∷ [])
+module _ (call : Call) (faultless : callFault call ≡ Absent) (e : call .code ≡ cas) where
+  pub template-faultless : tupleFault false (call .template) ≡ Absent
+  unfolding partFault usesTemplate
+  template-faultless = rw e at (call-sound call faultless .template .fault)
 
-view : (l : List Field) → length l ≡ places → Six l
-view [] h = absurd (omega arith)
-view (a ∷ []) h = absurd (omega arith)
-view (a ∷ b ∷ []) h = absurd (omega arith)
-view (a ∷ b ∷ c ∷ []) h = absurd (omega arith)
-view (a ∷ b ∷ c ∷ d ∷ []) h = absurd (omega arith)
-view (a ∷ b ∷ c ∷ d ∷ e ∷ []) h = absurd (omega arith)
-view (a ∷ b ∷ c ∷ d ∷ e ∷ f ∷ []) h = six a b c d e f
-view (a ∷ b ∷ c ∷ d ∷ e ∷ f ∷ g ∷ l) h = absurd (omega arith)
+  pub template-rest : restBlank (call .template) true ≡ true
+  unfolding usesTemplate
+  template-rest = rw e at (call-sound call faultless .template .rest)
+
+  pub entry-rest : restBlank (call .entry) true ≡ true
+  unfolding usesEntry
+  entry-rest = rw e at (call-sound call faultless .entry .rest)
 
 -- ---- one field
 
--- its kind, its state and its value make it
-field-is : (kind state : ℕ) (f : Field) → is kind state f ≡ true → (value : ℕ) → f .value ≡ value → f ≡ record { kind = kind; state = state; value = value }
-field-is kind state f h value same =
-    let head = kind-state kind state f h in
-    λ i. record { kind = head .0 i; state = head .1 i; value = same i }
-
--- two fields with a value, of one kind, are one if their values are
-same-field : (kind : ℕ) (f g : Field) → is kind defined f ≡ true → is kind defined g ≡ true → f .value ≡ g .value → f ≡ g
-same-field kind f g a b same = field-is kind defined f a (g .value) same ∙ sym (field-is kind defined g b (g .value) refl)
-
 same-word : (f g : Field) → says word decision f ≡ true → says word decision g ≡ true → f ≡ g
-same-word f g a b =
-    let first = and-eq-true-iff (is word defined f) (eqb (f .value) decision) .0 a in
-    let second = and-eq-true-iff (is word defined g) (eqb (g .value) decision) .0 b in
-    same-field word f g (first .0) (second .0) (eqb-true _ _ (first .1) ∙ sym (eqb-true _ _ (second .1)))
-
--- a field without a value has zero there
-open-field : (kind state : ℕ) (f : Field) → is kind state f ≡ true → (state ≡ defined → ⊥) → placeBlank f true ≡ true → f ≡ record { kind = kind; state = state; value = 0 }
-unfolding placeBlank
-open-field kind state f h undefined blank =
-    let other : isDefined f ≡ false = ne-eqb (f .state) defined (λ e. undefined (sym (kind-state kind state f h .1) ∙ e)) in
-    field-is kind state f h 0 (eqb-true (f .value) 0 (rw other at blank))
+same-word f g a b = field-says word decision f a ∙ sym (field-says word decision g b)
 
 -- ---- the fields of a template and of an entry
-
-used-blank : (n : ℕ) (f : Field) (l : List Field) → restFrom (suc n) (f ∷ l) ≡ true → (placeBlank f true ≡ true) × (restFrom n l ≡ true)
-unfolding restFrom
-used-blank n f l h = and-eq-true-iff (placeBlank f true) (restFrom n l) .0 h
 
 -- a list of six, by its first three or four
 three-blank : (a b c d e f : Field) → restFrom 3 (a ∷ b ∷ c ∷ d ∷ e ∷ f ∷ []) ≡ true
@@ -115,10 +95,10 @@ decision-fields (six a b c d e f) (six g h i j k l) front any blank blanks =
 -- ---- the template
 
 module _ (template entry : Tuple) (asked : length (template .fields) ≡ places) (given : length (entry .fields) ≡ places)
-    (blank : restFrom (template .count) (template .fields) ≡ true) (blanks : restFrom (entry .count) (entry .fields) ≡ true)
+    (blank : restBlank template true ≡ true) (blanks : restBlank entry true ≡ true)
     (same : roundOf template ≡ roundOf entry) where
   pub weak-template : isWeakTemplate template ≡ true → isWeakEntry entry ≡ true → template ≡ templateOf entry
-  unfolding isWeakTemplate isWeakEntry templateOf
+  unfolding isWeakTemplate isWeakEntry templateOf restBlank
   weak-template t e =
       let asks = four (eqb (template .count) 3) (says word decision (field template 0)) (is count defined (field template 1)) _ t in
       let gives = four (eqb (entry .count) 3) (says word decision (field entry 0)) (is count defined (field entry 1)) _ e in
@@ -131,7 +111,7 @@ module _ (template entry : Tuple) (asked : length (template .fields) ≡ places)
       rw as-many (λ i. record { count = three i; fields = fields i })
 
   pub decision-template : isDecisionTemplate template ≡ true → isDecision entry ≡ true → template ≡ templateOf entry
-  unfolding isDecisionTemplate isDecision templateOf
+  unfolding isDecisionTemplate isDecision templateOf restBlank
   decision-template t e =
       let any = and-eq-true-iff _ (is processSet wildcard (field template 3)) .0 t in
       let some = and-eq-true-iff _ (is processSet defined (field entry 3)) .0 e in

@@ -1,5 +1,5 @@
--- A space in which a script ends is not refused 14: under policies 1 to 3 each tuple was appended by a call that its own call is but for the process, and
--- under policy 0 every well-formed space is reached. From what a call does.
+-- A space in which a script ends is not refused 14: under policies 1 to 3 each tuple was appended by a call that its own call is but for the process, under
+-- policy 4 by its own call, and under policy 0 every well-formed space is reached. From what a call does.
 use mathlib.Core.Path.{_≡_, refl, sym, ap, _∙_}
 use Prim.Native.Nat.{ℕ, _≤_, _<_}
 use native.Mathlib.Omega.{arith}
@@ -13,8 +13,8 @@ use Rattle.dump.specs.Dumps.{dumpCalls, isAppended, allAppended, isReach
 use Rattle.dump.specs.Laws.{UnreachedRule}
 use Rattle.dump.specs.Appending.{processOne, outBy, casBy, ownProcess, templateOf, callOf}
 use Rattle.dump.proofs.AnswerLaws.{refused-unreached}
-use Rattle.dump.proofs.ReachLaws.{Entered, entered, call-entry, rebuilt}
-use Rattle.dump.proofs.Templates.{weak-template, decision-template}
+use Rattle.dump.proofs.ReachLaws.{Entered, entered, Under, under, call-entry, call-bare, call-proposal, call-decision, list-entered, rebuilt}
+use Rattle.dump.proofs.Templates.{template-rest, entry-rest, weak-template, decision-template}
 use Rattle.dump.proofs.TypedCalls.{typed-calls}
 use Rattle.calls.specs.declared.change.Change.{Change}
 use Rattle.calls.specs.declared.turn.Applied.{Applied}
@@ -26,18 +26,21 @@ use Rattle.calls.proofs.Effects.{no-inp}
 use Rattle.calls.proofs.RunSteps.{fresh-space, none-lawful, fresh-run, after-run}
 use Rattle.policy.specs.declared.verdicts.Verdict.the-variants.{Permit}
 use Rattle.policy.specs.Justified.{isDecisionCall, casVerdict, justified}
+use Rattle.policy.specs.Listing.{listTemplate}
 use Rattle.policy.specs.Policies.{verdictOn, verdict}
 use Rattle.policy.specs.Weak.{isWeakCall, weak}
 use Rattle.policy.proofs.DecisionLaws.{no-proposal}
+use Rattle.policy.proofs.ListingLaws.{list-template-made}
 use Rattle.policy.proofs.PolicyLaws.{bare-rule, weak-rule, out-rule, decision-call}
 use Rattle.record.specs.Writing.{Typed}
 use Rattle.script.proofs.RunLaws.{run-rules}
 use Rattle.space.specs.declared.config.Config.{Config}
 use Rattle.space.specs.declared.space.Space.{Space}
 use Rattle.space.specs.Configs.{sound, hasProposals, known}
+use Rattle.space.specs.Lists.{positionOf}
 use Rattle.space.specs.Shapes.{isProposal, processOf}
 use Rattle.space.specs.Spaces.{held, spaceOf}
-use Rattle.space.proofs.ConfigLaws.{sound-range, strict-proposals}
+use Rattle.space.proofs.ConfigLaws.{sound-range, Deciding, deciding-proposals}
 use Rattle.space.proofs.SpaceRules.{Lawful, held-of, formed-of}
 use Rattle.tuple.specs.declared.fault.Fault.the-variants.{Absent}
 use Rattle.tuple.specs.declared.field.Tuple.{Tuple}
@@ -64,59 +67,69 @@ module _ (config : Config) (safe : sound config ≡ true) (tuples : List Tuple) 
 
 -- ---- what a call that appended its entry says of the entry's own call
 
-module _ (config : Config) (safe : sound config ≡ true) (strict : 1 ≤ config .policy) (tuples : List Tuple) (lawful : Lawful tuples) (call : Call) (typed : Typed call) where
-  other : eqb (config .policy) 0 ≡ false
-  other = ne-eqb (config .policy) 0 (λ none. omega arith)
+-- the own process of an entry of the caller's number is the caller
+own-caller : (config : Config) (call : Call) → (1 ≤ call .process) × (call .process ≤ config .n) → processOf (call .entry) ≡ call .process
+    → ownProcess config (call .entry) ≡ call .process
+unfolding ownProcess known
+own-caller config call member own = rw (own, le-leb 1 (call .process) (member .0), le-leb (call .process) (config .n) (member .1))
 
-  -- an out is the own call of its entry
-  out-again : call .code ≡ out → Entered config tuples call (applied (spaceOf config tuples) call) → callOf config (call .entry) ≡ call
-  unfolding callOf ownProcess known usesTemplate
-  out-again e put =
-      let rests : hasProposals config ≡ true = strict-proposals config safe strict (λ one. let weak = weak-rule config tuples call one .0 (put .permitted) in omega (arith, weak .code)) in
-      let own = out-rule config tuples call rests e .0 (put .permitted) in
-      let least = le-leb 1 (processOf (call .entry)) (omega (arith, own .own, put .known .0)) in
-      let most = le-leb (processOf (call .entry)) (config .n) (omega (arith, own .own, put .known .1)) in
-      let unused : usesTemplate (call .code) ≡ false = rw e in
-      let blank : blankTuple ≡ call .template = blank-tuple (call .template) (typed .template) (rw unused at (call-sound call (put .faultless) .template .rest)) in
-      rw (other, own .shape, least, most) (λ i. record { process = own .own i; code = sym e i; template = blank i; entry = call .entry })
+module _ (config : Config) (tuples : List Tuple) (call : Call) (typed : Typed call) (put : Entered config tuples call (applied (spaceOf config tuples) call)) where
+  module _ (decides : Deciding config) where
+    -- an out is the own call of its entry
+    out-again : call .code ≡ out → callOf config (call .entry) ≡ call
+    unfolding usesTemplate
+    out-again e =
+        let rests : hasProposals config ≡ true = deciding-proposals config decides (λ one. let weak = weak-rule config tuples call one .0 (put .permitted) in omega (arith, weak .code)) in
+        let shaped = out-rule config tuples call rests e .0 (put .permitted) in
+        let own = own-caller config call (put .known) (shaped .own) in
+        let unused : usesTemplate (call .code) ≡ false = rw e in
+        let blank : blankTuple ≡ call .template = blank-tuple (call .template) (typed .template) (rw unused at (call-sound call (put .faultless) .template .rest)) in
+        call-proposal config (call .entry) decides (shaped .shape) ∙ (λ i. record { process = own i; code = sym e i; template = blank i; entry = call .entry })
 
-  -- the unused parts of a cas are zero
-  module _ (e : call .code ≡ cas) (faultless : callFault call ≡ Absent) where
-    template-rest : restFrom (call .template .count) (call .template .fields) ≡ true
-    unfolding usesTemplate restBlank
-    template-rest = rw e at (call-sound call faultless .template .rest)
+    -- a cas is the own call of its entry, but for the process
+    cas-again : call .code ≡ cas → (isProposal (call .entry) ≡ false) × (call .template ≡ templateOf (call .entry))
+    cas-again e =
+        let template = template-rest call (put .faultless) e in
+        let entry = entry-rest call (put .faultless) e in
+        cases (eqb (config .policy) 1)
+        (λ one. let weak = weak-rule config tuples call (eqb-true (config .policy) 1 one) .0 (put .permitted) in (
+          no-proposal config (call .entry) (rw one (weak .entry)),
+          weak-template (call .template) (call .entry) (typed .template) (typed .entry) template entry (weak .same) (weak .template) (weak .entry),
+        ))
+        (λ one. let rests = deciding-proposals config decides (eqb-false (config .policy) 1 one) in
+        let shaped = decision-call config tuples call rests e (put .permitted) in (
+          no-proposal config (call .entry) (rw one (shaped .entry)),
+          decision-template (call .template) (call .entry) (typed .template) (typed .entry) template entry (shaped .same) (shaped .template) (shaped .entry),
+        ))
 
-    entry-rest : restFrom (call .entry .count) (call .entry .fields) ≡ true
-    unfolding usesEntry restBlank
-    entry-rest = rw e at (call-sound call faultless .entry .rest)
-
-  -- a cas is the own call of its entry, but for the process
-  cas-again : call .code ≡ cas → Entered config tuples call (applied (spaceOf config tuples) call)
-      → (isProposal (call .entry) ≡ false) × (call .template ≡ templateOf (call .entry))
-  cas-again e put =
-      let template = template-rest e (put .faultless) in
-      let entry = entry-rest e (put .faultless) in
-      cases (eqb (config .policy) 1)
-      (λ one. let weak = weak-rule config tuples call (eqb-true (config .policy) 1 one) .0 (put .permitted) in (
-        no-proposal config (call .entry) (rw one (weak .entry)),
-        weak-template (call .template) (call .entry) (typed .template) (typed .entry) template entry (weak .same) (weak .template) (weak .entry),
-      ))
-      (λ one. let rests = strict-proposals config safe strict (eqb-false (config .policy) 1 one) in
-      let shaped = decision-call config tuples call rests e (put .permitted) in (
-        no-proposal config (call .entry) (rw one (shaped .entry)),
-        decision-template (call .template) (call .entry) (typed .template) (typed .entry) template entry (shaped .same) (shaped .template) (shaped .entry),
-      ))
+  -- under policy 4 the call is the own call of its entry, part by part
+  list-again : config .policy ≡ 4 → callOf config (call .entry) ≡ call
+  unfolding callOf
+  list-again is-four =
+      let made = list-entered config is-four tuples call put in
+      let asked : call .template ≡ listTemplate (positionOf (call .entry)) =
+      list-template-made (call .template) (template-rest call (put .faultless) (made .0)) (typed .template) .0
+      (made .1 .template) ∙ ap listTemplate (made .1 .same) in
+      let other = ne-eqb (config .policy) 0 (λ none. omega arith) in
+      let four = eq-eqb (config .policy) 4 is-four in
+      let process : callOf config (call .entry) .process ≡ call .process = rw (other, four) (own-caller config call (put .known) (made .2)) in
+      let code : callOf config (call .entry) .code ≡ call .code = rw (other, four) (sym (made .0)) in
+      let template : callOf config (call .entry) .template ≡ call .template = rw (other, four) (sym asked) in
+      λ i. record { process = process i; code = code i; template = template i; entry = call-entry config (call .entry) i }
 
 -- ---- a cas by process 1
 
 module _ (process : ℕ) (template entry : Tuple) where
+  -- what is wrong with it does not depend on the process
   same-fault : callFault (casBy processOne template entry) ≡ callFault (casBy process template entry)
   unfolding callFault usedFault
   same-fault = refl
 
-  same-verdict : (config : Config) (tuples : List Tuple) → verdictOn config tuples (casBy processOne template entry) ≡ verdictOn config tuples (casBy process template entry)
+  -- nor does what policies 1 to 3 permit
+  same-verdict : (config : Config) (tuples : List Tuple) → Deciding config
+      → verdictOn config tuples (casBy processOne template entry) ≡ verdictOn config tuples (casBy process template entry)
   unfolding verdictOn weak isWeakCall justified casVerdict isDecisionCall
-  same-verdict config tuples = refl
+  same-verdict config tuples decides = rw (ne-eqb (config .policy) 4 (λ four. omega arith))
 
   inserts : (tuples : List Tuple) → oldestOf tuples template ≡ Nowhere → length tuples < capacity → effect tuples (casBy process template entry) .reply .outcome ≡ outcome.Inserted
   unfolding effect
@@ -124,33 +137,37 @@ module _ (process : ℕ) (template entry : Tuple) where
 
 -- ---- what was appended, its own call appends too
 
-module _ (config : Config) (safe : sound config ≡ true) (strict : 1 ≤ config .policy) (tuples : List Tuple) (lawful : Lawful tuples) (call : Call) (typed : Typed call) where
-  own-cas : isProposal (call .entry) ≡ false → callOf config (call .entry) ≡ casBy processOne (templateOf (call .entry)) (call .entry)
-  unfolding callOf
-  own-cas shape = rw (ne-eqb (config .policy) 0 (λ none. omega arith), shape)
+module _ (config : Config) (safe : sound config ≡ true) (tuples : List Tuple) (lawful : Lawful tuples) (call : Call) (typed : Typed call)
+    (put : isAppended (applied (spaceOf config tuples) call .reply .outcome) ≡ true) where
+  here : Entered config tuples call (applied (spaceOf config tuples) call)
+  here = entered config tuples lawful call put
 
-  append-again : isAppended (applied (spaceOf config tuples) call .reply .outcome) ≡ true
-      → isAppended (applied (spaceOf config tuples) (callOf config (call .entry)) .reply .outcome) ≡ true
-  append-again put = by-way (here .enters)
+  abbrev Again : Type 0
+  Again = isAppended (applied (spaceOf config tuples) (callOf config (call .entry)) .reply .outcome) ≡ true
+
+  decided-again : Deciding config → {how : Outcome} → Enters tuples call how → Again
+  decided-again decides (Enters.by-out e) = rw (out-again config tuples call typed here decides e) put
+  decided-again decides (Enters.by-cas e none) =
+      let again = cas-again config tuples call typed here decides e in
+      let template = templateOf (call .entry) in
+      let own = casBy (call .process) template (call .entry) in
+      let same : call ≡ own = λ i. record { process = call .process; code = e i; template = again .1 i; entry = call .entry } in
+      let other = casBy processOne template (call .entry) in
+      let faultless : callFault other ≡ Absent = same-fault (call .process) template (call .entry) ∙ ap callFault (sym same) ∙ here .faultless in
+      let permitted : verdictOn config tuples other ≡ Permit =
+      same-verdict (call .process) template (call .entry) config tuples decides ∙ ap (verdictOn config tuples) (sym same) ∙ here .permitted in
+      let answer : applied (spaceOf config tuples) other .reply .outcome ≡ outcome.Inserted =
+      obeyed config safe tuples lawful other faultless (omega arith, sound-range config safe .0) permitted
+      ∙ inserts processOne template (call .entry) tuples (rw (again .1) at none) (here .room) in
+      rw (call-decision config (call .entry) decides (again .0), answer)
+
+  append-again : 1 ≤ config .policy → Again
+  append-again strict = by-policy (under config safe)
     where
-      here : Entered config tuples call (applied (spaceOf config tuples) call)
-      here = entered config tuples lawful call put
-
-      by-way : {how : Outcome} → Enters tuples call how → isAppended (applied (spaceOf config tuples) (callOf config (call .entry)) .reply .outcome) ≡ true
-      by-way (Enters.by-out e) = rw (out-again config safe strict tuples lawful call typed e here) put
-      by-way (Enters.by-cas e none) =
-          let again = cas-again config safe strict tuples lawful call typed e here in
-          let template = templateOf (call .entry) in
-          let own = casBy (call .process) template (call .entry) in
-          let same : call ≡ own = λ i. record { process = call .process; code = e i; template = again .1 i; entry = call .entry } in
-          let other = casBy processOne template (call .entry) in
-          let faultless : callFault other ≡ Absent = same-fault (call .process) template (call .entry) ∙ ap callFault (sym same) ∙ here .faultless in
-          let permitted : verdictOn config tuples other ≡ Permit =
-          same-verdict (call .process) template (call .entry) config tuples ∙ ap (verdictOn config tuples) (sym same) ∙ here .permitted in
-          let answer : applied (spaceOf config tuples) other .reply .outcome ≡ outcome.Inserted =
-          obeyed config safe tuples lawful other faultless (omega arith, sound-range config safe .0) permitted
-          ∙ inserts processOne template (call .entry) tuples (rw (again .1) at none) (here .room) in
-          rw (own-cas (again .0), answer)
+      by-policy : Under config → Again
+      by-policy (Under.bare none) = absurd (omega arith)
+      by-policy (Under.deciding decides) = decided-again decides (here .enters)
+      by-policy (Under.listing is-four) = rw (list-again config tuples call typed here is-four) put
 
 -- ---- one call more
 
@@ -223,7 +240,7 @@ module _ (config : Config) (safe : sound config ≡ true) where
           tuples = tuples ++ (call .entry ∷ []);
           lawful = here .lawful;
           same = here .same;
-          reach = reach-more tuples (call .entry) reach (append-again config safe strict tuples lawful call typed put);
+          reach = reach-more tuples (call .entry) reach (append-again config safe tuples lawful call typed put strict);
         }
 
     calls-left : (calls : List Call) → ((call : Call) → List·Memᴰ call calls → Typed call) → (space : Space) → Left space → Left (after space calls)
@@ -243,10 +260,6 @@ module _ (config : Config) (safe : sound config ≡ true) where
         let parts = and-eq-true-iff (isAbsent (tupleFault true tuple)) _ .0 entry in
         rw (absent (tupleFault true tuple) (parts .0), parts .1)
 
-    pub bare-call : (tuple : Tuple) → callOf config tuple ≡ outBy processOne tuple
-    unfolding callOf
-    bare-call tuple = rw (eq-eqb (config .policy) 0 bare)
-
     bare-done : (tuples : List Tuple) (tuple : Tuple) → Lawful tuples → length tuples < capacity → isEntry tuple ≡ true
         → isAppended (applied (spaceOf config tuples) (callOf config tuple) .reply .outcome) ≡ true
     unfolding effect
@@ -255,7 +268,7 @@ module _ (config : Config) (safe : sound config ≡ true) where
         let permitted = bare-rule config tuples call bare in
         let answer : applied (spaceOf config tuples) call .reply .outcome ≡ outcome.Done =
         obeyed config safe tuples lawful call (bare-faultless tuple entry) (omega arith, sound-range config safe .0) permitted ∙ rw (lt-ltb (length tuples) capacity room) in
-        rw (bare-call tuple, answer)
+        rw (call-bare config tuple bare, answer)
 
     -- every list of entries that are not too many
     bare-reach : (before rest : List Tuple) → Lawful before → Reach before → Lawful (before ++ rest) → Reach (before ++ rest)

@@ -1,12 +1,15 @@
--- Document 02, 2.4: the call that appends a tuple to a space. For a proposal it is an out by its own process, for a decision a cas by process 1, and
--- under policy 0 for every tuple an out by process 1. For any other tuple it is a call that the policy never permits.
+-- Document 02, 2.4 and 2.6: the call that appends a tuple to a space. For a proposal it is an out by its own process, for a decision a cas by process 1,
+-- and under policy 0 for every tuple an out by process 1; under policy 4 it is for a list tuple a cas by its own process. For any other tuple it is a
+-- call that the policy never permits.
 use Prim.Native.Nat.{ℕ}
 use mathlib.Core.Bool.{cond}
 use mathlib.Core.List.{List}
 use lib.ListN.{set}
 use lib.Dec.{eqb}
+use Rattle.policy.specs.Listing.{listTemplate}
 use Rattle.space.specs.declared.config.Config.{Config}
 use Rattle.space.specs.Configs.{known}
+use Rattle.space.specs.Lists.{positionOf}
 use Rattle.space.specs.Shapes.{isProposal, processOf}
 use Rattle.tuple.specs.declared.field.Field.{Field}
 use Rattle.tuple.specs.declared.field.Tuple.{Tuple}
@@ -23,7 +26,7 @@ outBy process tuple = record { process = process; code = out; template = blankTu
 abbrev pub casBy : ℕ → Tuple → Tuple → Call
 casBy process template tuple = record { process = process; code = cas; template = template; entry = tuple }
 
--- ---- a proposal
+-- ---- a proposal or a list tuple
 
 -- its own process; one that is none of 1 to n calls as 0, which is nobody
 unfoldable pub ownProcess : Config → Tuple → ℕ
@@ -47,7 +50,9 @@ templateOf tuple = record { count = tuple .count; fields = withAnySet (tuple .co
 
 -- ---- by the policy
 
+-- under policy 4 every tuple is tried with the template of its position
 unfoldable pub callOf : Config → Tuple → Call
 callOf config tuple =
     cond (eqb (config .policy) 0) (outBy processOne tuple)
-    (cond (isProposal tuple) (outBy (ownProcess config tuple) tuple) (casBy processOne (templateOf tuple) tuple))
+    (cond (eqb (config .policy) 4) (casBy (ownProcess config tuple) (listTemplate (positionOf tuple)) tuple)
+    (cond (isProposal tuple) (outBy (ownProcess config tuple) tuple) (casBy processOne (templateOf tuple) tuple)))

@@ -1,5 +1,5 @@
--- Document 02, 2.4, by examples: the space in which document 01's worked script ends, written as a script, and spaces that no script ends in, as rows
--- of one table with one claim.
+-- Document 02, 2.4 and 2.6, by examples: the space in which document 01's worked script ends, written as a script, and other spaces, many of which no
+-- script ends in, as rows of one table with one claim.
 use mathlib.Core.Path.{_≡_}
 use Prim.Native.Nat.{ℕ}
 use mathlib.Core.Bool.{cond}
@@ -10,16 +10,14 @@ use Rattle.dump.specs.Laws.{EndsIn}
 use Rattle.record.specs.declared.writer.Recorded.{Recorded}
 use Rattle.record.specs.declared.writer.Recorded.the-variants.{Length, Unwritten}
 use Rattle.space.specs.declared.space.Space.{Space}
+use Rattle.space.specs.Lists.{listTuple}
 use Rattle.space.specs.Spaces.{spaceOf}
-use Rattle.tuple.specs.declared.field.Field.{Field}
 use Rattle.tuple.specs.declared.field.Tuple.{Tuple}
-use Rattle.tuple.specs.Fields.{word, count, offset, processSet, defined, propose, decision, blankField}
+use Rattle.tuple.specs.Fields.{word, count, offset, processSet, propose, decision, blankField}
 use Rattle.tuple.specs.Refusals.{refusal}
+use Rattle.tuple.specs.Shapes.{given}
 
 -- ---- tuples
-
-abbrev pub given : ℕ → ℕ → Field
-given kind value = record { kind = kind; state = defined; value = value }
 
 -- (word 1, count round, count process, offset of this code)
 abbrev pub proposal : ℕ → ℕ → ℕ → Tuple
@@ -74,6 +72,21 @@ WorkedEnds = EndsIn workedScript worked
 abbrev pub WorkedBytes : Type 0
 WorkedBytes = dumpBytes worked ≡ workedBytes
 
+-- a shared list of two shifts, -40 by process 1 and 40 by process 2, each under its serial 7
+abbrev pub listed : Space
+listed = under 4 (listTuple 1 1 7 80 ∷ listTuple 2 2 7 81 ∷ [])
+
+-- its script: each entry is written by its process, as a cas
+abbrev pub listedBytes : List ℕ
+listedBytes =
+    4 ∷ 1 ∷ 4
+    ∷ 1 ∷ 4 ∷ 5 ∷ 4 ∷ 3 ∷ 8 ∷ 1 ∷ 9 ∷ 9 ∷ 14 ∷ 5 ∷ 4 ∷ 3 ∷ 8 ∷ 1 ∷ 8 ∷ 1 ∷ 8 ∷ 7 ∷ 12 ∷ 80
+    ∷ 2 ∷ 4 ∷ 5 ∷ 4 ∷ 3 ∷ 8 ∷ 2 ∷ 9 ∷ 9 ∷ 14 ∷ 5 ∷ 4 ∷ 3 ∷ 8 ∷ 2 ∷ 8 ∷ 2 ∷ 8 ∷ 7 ∷ 12 ∷ 81
+    ∷ []
+
+abbrev pub ListedBytes : Type 0
+ListedBytes = dumpBytes listed ≡ listedBytes
+
 -- ---- the table
 
 -- a space, and what writing it into a buffer that has room answers
@@ -115,6 +128,22 @@ rows =
     ∷ unreached (under 1 (proposal 0 1 80 ∷ []))
     -- under policy 0 every tuple
     ∷ row (under 0 (decisionEntry 0 80 5 ∷ decisionEntry 0 80 5 ∷ [])) (Length 25)
+    -- under policy 4 the list of two shifts
+    ∷ row listed (Length 45)
+    -- position 2 before 1, 3 behind 1, 0, 1 twice, and 113 with nothing before it
+    ∷ unreached (under 4 (listTuple 2 2 7 81 ∷ listTuple 1 1 7 80 ∷ []))
+    ∷ unreached (under 4 (listTuple 1 1 7 80 ∷ listTuple 3 2 7 81 ∷ []))
+    ∷ unreached (under 4 (listTuple 0 1 7 80 ∷ []))
+    ∷ unreached (under 4 (listTuple 1 1 7 80 ∷ listTuple 1 2 7 81 ∷ []))
+    ∷ unreached (under 4 (listTuple 113 1 7 80 ∷ []))
+    -- an entry of process 0, of one above n, and a process and serial twice
+    ∷ unreached (under 4 (listTuple 1 0 7 80 ∷ []))
+    ∷ unreached (under 4 (listTuple 1 5 7 80 ∷ []))
+    ∷ unreached (under 4 (listTuple 1 1 7 80 ∷ listTuple 2 1 7 81 ∷ []))
+    -- the mark as a shift, and any other tuple: a proposal, a decision
+    ∷ unreached (under 4 (listTuple 1 1 7 0 ∷ []))
+    ∷ unreached (under 4 (proposal 0 1 80 ∷ []))
+    ∷ unreached (under 4 (decisionEntry 0 80 5 ∷ []))
     -- not well formed, and so not asked for 14: no policy of this number, and an offset beyond its kind
     ∷ row (under 255 (proposal 0 1 80 ∷ [])) (Unwritten (refusal 1))
     ∷ row (under 2 (proposal 0 1 200_002 ∷ [])) (Unwritten (refusal 1))

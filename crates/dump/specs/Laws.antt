@@ -1,4 +1,4 @@
--- The laws of a space that is written as a script, as claims over the definitions, in document 02's words.
+-- The laws of a space that is written as a script, as claims over the definitions, in document 02's words (2.4, and of policy 4 2.6).
 use mathlib.Core.Path.{_≡_}
 use mathlib.Core.Bool.{Bool, true, false}
 use mathlib.Core.Logic.{_↔_, _⊎_}
@@ -7,12 +7,14 @@ use Prim.Native.Nat.{ℕ, _≤_, _<_}
 use lib.ListN.{length, take, drop}
 use Rattle.dump.specs.Dumps.{dumpBytes, writtenOf, leftOf}
 use Rattle.calls.specs.Turns.{Turn}
+use Rattle.policy.specs.Listing.{isListTemplate}
 use Rattle.policy.specs.Shapes.{isWeakTemplate, isWeakEntry, isDecisionTemplate, isDecision}
 use Rattle.record.specs.declared.writer.Recorded.the-variants.{Length, Unwritten}
 use Rattle.script.specs.Scripts.{Opened, ran}
 use Rattle.space.specs.declared.config.Config.{Config}
 use Rattle.space.specs.declared.space.Space.{Space}
 use Rattle.space.specs.Configs.{sound, hasProposals}
+use Rattle.space.specs.Lists.{isListTuple, positionOf}
 use Rattle.space.specs.Shapes.{isProposal, roundOf, processOf}
 use Rattle.space.specs.Spaces.{held, spaceOf, wellFormed, Typed}
 use Rattle.tuple.specs.declared.fault.Fault.{Fault}
@@ -45,12 +47,22 @@ pub record CasOf (shape : Tuple → Bool) (tuple : Tuple) (call : Call) : Type 0
   pub round : roundOf (call .template) ≡ roundOf tuple
   pub entry : call .entry ≡ tuple
 
--- a proposal as an out by its process, a decision as a cas by process 1, and under policy 0 every tuple as an out by process 1
+-- a cas of the tuple by its own process, with a template of a list tuple's position, which is the tuple's
+pub record ListCasOf (tuple : Tuple) (call : Call) : Type 0 where
+  pub by : call .process ≡ processOf tuple
+  pub code : call .code ≡ cas
+  pub template : isListTemplate (call .template) ≡ true
+  pub position : positionOf (call .template) ≡ positionOf tuple
+  pub entry : call .entry ≡ tuple
+
+-- a proposal as an out by its process, a decision as a cas by process 1, under policy 0 every tuple as an out by process 1, and under policy 4 a list
+-- tuple as a cas by its process
 pub data Appends (config : Config) (tuple : Tuple) (call : Call) : Type 0 where
   bare : config .policy ≡ 0 → OutOf 1 tuple call → Appends config tuple call
   proposal : hasProposals config ≡ true → isProposal tuple ≡ true → OutOf (processOf tuple) tuple call → Appends config tuple call
   weak : config .policy ≡ 1 → isWeakEntry tuple ≡ true → CasOf isWeakTemplate tuple call → Appends config tuple call
   decision : hasProposals config ≡ true → isDecision tuple ≡ true → CasOf isDecisionTemplate tuple call → Appends config tuple call
+  listing : config .policy ≡ 4 → isListTuple tuple ≡ true → ListCasOf tuple call → Appends config tuple call
 
 -- the turns append the tuples one by one, oldest first, each answered done or inserted
 pub data AppendAll (config : Config) : List Tuple → List Turn → Type 0 where
@@ -136,6 +148,15 @@ AlwaysRoom =
     → (writtenOf space room ≡ Unwritten (refusal 14) → ⊥)
     → 4_995 ≤ room
     → writtenOf space room ≡ Length (length (dumpBytes space))
+
+-- under policy 4 at most 3,027: a set-up of three, and 27 for each of 112 tuples
+abbrev pub ListLengthMost : Type 0
+ListLengthMost =
+    (space : Space) (room n : ℕ)
+    → Typed space
+    → space .config .policy ≡ 4
+    → writtenOf space room ≡ Length n
+    → (n ≡ length (dumpBytes space)) × (n ≤ 3_027)
 
 -- six counts from 2^28 up
 pub record Wide (tuple : Tuple) : Type 0 where

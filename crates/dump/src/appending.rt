@@ -2,24 +2,31 @@
 ghost use mathlib.Core.Path.{_≡_};
 ghost use mathlib.Core.Bool.{true};
 ghost use Rattle.dump.specs.Appending.{outBy, casBy, ownProcess, templateOf, callOf};
+ghost use Rattle.policy.specs.Listing.{listTemplate};
 ghost use Rattle.space.specs.Configs.{sound};
+ghost use Rattle.space.specs.Lists.{positionOf};
+ghost use Rattle.tuple.specs.Fields.{defined};
 use space::Config;
 use space::is_proposal;
 use tuple::CAS;
+use tuple::COUNT;
 use tuple::Call;
+use tuple::DEFINED;
 use tuple::FORMAL;
 use tuple::Field;
+use tuple::LISTING;
 use tuple::OFFSET;
 use tuple::OUT;
 use tuple::PROCESS_SET;
 use tuple::Tuple;
 use tuple::WILDCARD;
+use tuple::WORD;
 
 // The process that appends what has no process of its own.
 const PROCESS_ONE: u32 = 1;
 
-// For a proposal an out by its own process, for a decision a cas by process 1, and under policy 0 for every tuple an out by process 1. For any
-// other tuple it is a call that the policy never permits.
+// For a proposal an out by its own process, for a decision a cas by process 1, and under policy 0 for every tuple an out by process 1; under policy 4
+// for a list tuple a cas by its own process. For any other tuple it is a call that the policy never permits.
 pub(crate) fn call_of(config: Config, tuple: Tuple) -> Call
     requires { ⌜ sound config ≡ true ⌝ }
     ensures { λ r. ⌜ r ≡ callOf config tuple ⌝ }
@@ -27,8 +34,12 @@ pub(crate) fn call_of(config: Config, tuple: Tuple) -> Call
     if config.policy == 0 {
         return out_by(PROCESS_ONE, tuple);
     }
+    let own = own_process(config, tuple);
+    if config.policy == 4 {
+        return cas_by(own, list_template(tuple), tuple);
+    }
     if is_proposal(tuple) {
-        return out_by(own_process(config, tuple), tuple);
+        return out_by(own, tuple);
     }
     cas_by(PROCESS_ONE, template_of(tuple), tuple)
 }
@@ -55,7 +66,7 @@ fn cas_by(process: u32, template: Tuple, tuple: Tuple) -> Call
     }
 }
 
-// The process of a proposal; 0, which is nobody, if it is none of 1 to n.
+// The process of a proposal or a list tuple; 0, which is nobody, if it is none of 1 to n.
 fn own_process(config: Config, tuple: Tuple) -> u32
     requires { ⌜ sound config ≡ true ⌝ }
     ensures { λ r. ⌜ r ≡ ownProcess config tuple ⌝ }
@@ -79,6 +90,31 @@ fn template_of(tuple: Tuple) -> Tuple
         template.fields[3] = undefined(PROCESS_SET, WILDCARD);
     }
     template
+}
+
+// The template of a list tuple's position: the word and the position, two counts of state any, and an open offset.
+fn list_template(tuple: Tuple) -> Tuple
+    ensures { λ r. ⌜ r ≡ listTemplate (positionOf tuple) ⌝ }
+{
+    let second = tuple.fields[1];
+    let mut template = Tuple::blank();
+    template.count = 5;
+    template.fields[0] = given(WORD, LISTING);
+    template.fields[1] = given(COUNT, second.value);
+    template.fields[2] = undefined(COUNT, WILDCARD);
+    template.fields[3] = undefined(COUNT, WILDCARD);
+    template.fields[4] = undefined(OFFSET, FORMAL);
+    template
+}
+
+fn given(kind: u8, value: u64) -> Field
+    ensures { λ r. ⌜ r ≡ record { kind = kind; state = defined; value = value } ⌝ }
+{
+    Field {
+        kind,
+        state: DEFINED,
+        value,
+    }
 }
 
 fn undefined(kind: u8, state: u8) -> Field

@@ -27,7 +27,7 @@ asks config tuple = cond (eqb (config .policy) 1) (isWeakTemplate tuple) (isDeci
 
 -- ---- a place
 
-said : (kind value : ℕ) (f : Field) → says kind value f ≡ true → f .value ≡ value
+pub said : (kind value : ℕ) (f : Field) → says kind value f ≡ true → f .value ≡ value
 said kind value f h = eqb-true (f .value) value (and-eq-true-iff (is kind defined f) (eqb (f .value) value) .0 h .1)
 
 field-match : (kind state : ℕ) (template entry : Field) → is kind state template ≡ true → is kind defined entry ≡ true

@@ -15,6 +15,7 @@ use Rattle.policy.specs.Justified.{isOwnProposal, isFree, outVerdict, is
 use Rattle.policy.specs.Default.{bearsBottom}
 use Rattle.policy.specs.Laws.{Denial, VerdictRule, SecondProposal, SecondRule, Unborne, UnborneRule, OtherwiseRule, UnknownRule, BoundedRule, BareRule, WeakRule, OutRule, RdpRule, InpRule, DecisionCall, BearsOffset, BearsBottom, CasOffsetRule, CasBottomRule, CasChoiceRule}
 use Rattle.policy.specs.Laws.Denial.{denied, second, unborne}
+use Rattle.policy.specs.Listing.{mayList, shared}
 use Rattle.policy.specs.Policies.{verdictOn, verdict}
 use Rattle.policy.specs.Shapes.{sameRound, isWeakTemplate, isWeakEntry, isDecisionTemplate, isDecision, decidedCode, setOf}
 use Rattle.policy.specs.Verdicts.{demand}
@@ -54,7 +55,13 @@ bounded-rule space call out-of = rw out-of
 pub unknown-rule : UnknownRule
 unfolding verdictOn hasProposals
 unknown-rule config tuples call above =
-    rw (ne-eqb (config .policy) 0 (λ e. omega arith), ne-eqb (config .policy) 1 (λ e. omega arith), ne-eqb (config .policy) 2 (λ e. omega arith), ne-eqb (config .policy) 3 (λ e. omega arith))
+    rw (
+      ne-eqb (config .policy) 0 (λ e. omega arith),
+      ne-eqb (config .policy) 1 (λ e. omega arith),
+      ne-eqb (config .policy) 2 (λ e. omega arith),
+      ne-eqb (config .policy) 3 (λ e. omega arith),
+      ne-eqb (config .policy) 4 (λ e. omega arith),
+    )
 
 pub bare-rule : BareRule
 unfolding verdictOn
@@ -70,6 +77,10 @@ module _ (config : Config) (tuples : List Tuple) (call : Call) where
   under-justified rests =
       let two = proposals-some config rests in
       rw (ne-eqb (config .policy) 0 (λ e. omega arith), ne-eqb (config .policy) 1 (λ e. omega arith), rests)
+
+  pub under-shared : config .policy ≡ 4 → verdictOn config tuples call ≡ shared tuples call
+  unfolding verdictOn hasProposals
+  under-shared four = rw four
 
 -- ---- policy 1
 
@@ -103,10 +114,12 @@ unfolding justified
 rdp-rule config tuples call rests e = rw (under-justified config tuples call rests, e)
 
 pub inp-rule : InpRule
-unfolding verdictOn weak isWeakCall justified
+unfolding verdictOn weak isWeakCall justified shared
 inp-rule config tuples call some e =
     let none = ne-eqb (config .policy) 0 (λ z. omega arith) in
-    cases (eqb (config .policy) 1) (λ one. rw (none, one, e)) (λ other. cases (hasProposals config) (λ rests. rw (none, other, rests, e)) (λ more. rw (none, other, more)))
+    cases (eqb (config .policy) 1) (λ one. rw (none, one, e))
+    (λ other. cases (hasProposals config) (λ rests. rw (none, other, rests, e))
+    (λ more. cases (eqb (config .policy) 4) (λ four. rw (none, other, more, four, e)) (λ last. rw (none, other, more, last))))
 
 free-rule : (config : Config) (tuples : List Tuple) (entry : Tuple) → (isFree config tuples entry ≡ true) ↔ (Placed tuples (roundOf entry) (processOf entry) → ⊥)
 unfolding isFree
@@ -276,6 +289,14 @@ module _ (config : Config) (tuples : List Tuple) (call : Call) where
       }))))
       (λ other. rw other denies)
 
+  shared-cause : Cause config tuples call (shared tuples call)
+  unfolding shared
+  shared-cause =
+      cases (eqb (call .code) rdp) (λ a. rw a permits)
+      (λ a. cases (eqb (call .code) cas)
+      (λ b. cases (mayList tuples call) (λ c. rw (a, b, c) permits) (λ c. rw (a, b, c) denies))
+      (λ b. rw (a, b) denies))
+
   cause : Cause config tuples call (verdictOn config tuples call)
   unfolding verdictOn weak justified
   cause =
@@ -290,7 +311,7 @@ module _ (config : Config) (tuples : List Tuple) (call : Call) where
       (λ d. cases (eqb (call .code) cas)
       (λ e. rw (a, b, rests, c, d, e) (cas-cause rests (eqb-true (call .code) cas e)))
       (λ e. rw (a, b, rests, c, d, e) denies))))
-      (λ rests. rw (a, b, rests) denies)))
+      (λ rests. cases (eqb (config .policy) 4) (λ c. rw (a, b, rests, c) shared-cause) (λ c. rw (a, b, rests, c) denies))))
 
 -- permitted, or refused by one of the three
 abbrev Ruled : Verdict → Type 0

@@ -5,23 +5,29 @@ use mathlib.Core.Bool.{true, false}
 use mathlib.Core.List.{List}
 use Prim.Native.Nat.{ℕ, _+_, _-_, _≤_, _<_}
 use lib.Count.{ones}
+use lib.ListN.{length}
 use Rattle.policy.specs.declared.verdicts.Verdict.the-variants.{Permit, Refuse}
+use Rattle.policy.specs.Listing.{isListTemplate, listTemplate}
 use Rattle.policy.specs.Policies.{verdictOn, verdict}
 use Rattle.policy.specs.Shapes.{isWeakTemplate, isWeakEntry, isDecisionTemplate, isDecision, decidedCode, setOf}
 use Rattle.space.specs.declared.config.Config.{Config}
 use Rattle.space.specs.declared.space.Space.{Space}
 use Rattle.space.specs.Bounds.{rounds}
 use Rattle.space.specs.Configs.{hasProposals}
+use Rattle.space.specs.Lists.{isListTuple, positionOf, serialOf, shiftCode, Filled, Listed}
 use Rattle.space.specs.Members.{Member}
 use Rattle.space.specs.Proposals.{offered, decidable, Placed, Proposed}
 use Rattle.space.specs.Shapes.{roundOf, isProposal, processOf, proposedCode}
 use Rattle.space.specs.Spaces.{bounded}
 use Rattle.tuple.specs.declared.field.Tuple.{Tuple}
 use Rattle.tuple.specs.declared.field.Call.{Call}
+use Rattle.tuple.specs.Bounds.{places}
+use Rattle.tuple.specs.Faults.{restBlank}
 use Rattle.tuple.specs.Fields.{out, rdp, inp, cas}
 use Rattle.tuple.specs.Offsets.{bottom}
 use Rattle.tuple.specs.declared.refusal.Refusal.{Refusal}
 use Rattle.tuple.specs.Refusals.{refusal}
+use Rattle.tuple.specs.Shapes.{field}
 
 -- ---- every policy
 
@@ -43,7 +49,7 @@ BoundedRule = (space : Space) (call : Call) → bounded space ≡ false → verd
 
 -- a number that is no policy's permits nothing
 abbrev pub UnknownRule : Type 0
-UnknownRule = (config : Config) (tuples : List Tuple) (call : Call) → 3 < config .policy → verdictOn config tuples call ≡ Refuse (refusal 7)
+UnknownRule = (config : Config) (tuples : List Tuple) (call : Call) → 4 < config .policy → verdictOn config tuples call ≡ Refuse (refusal 7)
 
 -- ---- policy 0: all calls
 
@@ -84,7 +90,7 @@ OutRule =
 abbrev pub RdpRule : Type 0
 RdpRule = (config : Config) (tuples : List Tuple) (call : Call) → hasProposals config ≡ true → call .code ≡ rdp → verdictOn config tuples call ≡ Permit
 
--- inp never, nor under policy 1
+-- inp never, nor under policies 1 and 4
 abbrev pub InpRule : Type 0
 InpRule = (config : Config) (tuples : List Tuple) (call : Call) → 1 ≤ config .policy → call .code ≡ inp → verdictOn config tuples call ≡ Refuse (refusal 7)
 
@@ -135,6 +141,56 @@ CasChoiceRule =
     → config .policy ≡ 3
     → call .code ≡ cas
     → (decidedCode (call .entry) ≡ bottom) ⊎ (offered config (decidedCode (call .entry)) ≡ false)
+    → verdictOn config tuples call ≡ Refuse (refusal 7)
+
+-- ---- policy 4
+
+-- five fields: the word 3 and the position given, the next two counts of state any, and the offset open (kinds 1, 2 and 3; states 0, 1 and 2)
+pub record ListTemplate (template : Tuple) (position : ℕ) : Type 0 where
+  pub five : template .count ≡ 5
+  pub first : field template 0 ≡ record { kind = 1; state = 0; value = 3 }
+  pub second : field template 1 ≡ record { kind = 2; state = 0; value = position }
+  pub third : (field template 2 .kind ≡ 2) × (field template 2 .state ≡ 1)
+  pub fourth : (field template 3 .kind ≡ 2) × (field template 3 .state ≡ 1)
+  pub fifth : (field template 4 .kind ≡ 3) × (field template 4 .state ≡ 2)
+
+abbrev pub ListTemplateRule : Type 0
+ListTemplateRule = (template : Tuple) → (isListTemplate template ≡ true) ↔ ListTemplate template (positionOf template)
+
+-- one whose unused parts are zero has nothing else: it is the one of its position
+abbrev pub ListTemplateMade : Type 0
+ListTemplateMade =
+    (template : Tuple)
+    → restBlank template true ≡ true
+    → length (template .fields) ≡ places
+    → (isListTemplate template ≡ true) ↔ (template ≡ listTemplate (positionOf template))
+
+-- both shapes, on one position 1 to 112, of a shift other than bottom, whose process and serial are not listed, at any position with any shift; and the
+-- position is 1, or the one before it stands in the space
+pub record ListCall (tuples : List Tuple) (call : Call) : Type 0 where
+  pub template : isListTemplate (call .template) ≡ true
+  pub entry : isListTuple (call .entry) ≡ true
+  pub same : positionOf (call .template) ≡ positionOf (call .entry)
+  pub first : 1 ≤ positionOf (call .entry)
+  pub most : positionOf (call .entry) ≤ 112
+  pub some : shiftCode (call .entry) ≡ bottom → ⊥
+  pub unlisted : Listed tuples (processOf (call .entry)) (serialOf (call .entry)) → ⊥
+  pub follows : (positionOf (call .entry) ≡ 1) ⊎ Filled tuples (positionOf (call .entry) - 1)
+
+-- rdp, whatever its template, and such a cas of the caller's own number; nothing else
+abbrev pub ListRule : Type 0
+ListRule =
+    (config : Config) (tuples : List Tuple) (call : Call)
+    → config .policy ≡ 4
+    → (verdictOn config tuples call ≡ Permit)
+    ↔ ((call .code ≡ rdp) ⊎ ((call .code ≡ cas) × ListCall tuples call × (processOf (call .entry) ≡ call .process)))
+
+-- 7 covers all else
+abbrev pub ListDenied : Type 0
+ListDenied =
+    (config : Config) (tuples : List Tuple) (call : Call)
+    → config .policy ≡ 4
+    → (verdictOn config tuples call ≡ Permit → ⊥)
     → verdictOn config tuples call ≡ Refuse (refusal 7)
 
 -- ---- why a call is not permitted

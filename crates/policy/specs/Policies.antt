@@ -1,10 +1,11 @@
--- Document 01, "Policies", and document 02, 2.1: the verdict of a space's policy on a call, by the policy's number.
+-- Document 01, "Policies", and document 02, 2.1 and 2.6: the verdict of a space's policy on a call, by the policy's number.
 use mathlib.Core.Bool.{cond}
 use mathlib.Core.List.{List}
 use lib.Dec.{eqb}
 use Rattle.policy.specs.declared.verdicts.Verdict.{Verdict}
 use Rattle.policy.specs.declared.verdicts.Verdict.the-variants.{Permit, Refuse}
 use Rattle.policy.specs.Justified.{justified}
+use Rattle.policy.specs.Listing.{shared}
 use Rattle.policy.specs.Verdicts.{demand}
 use Rattle.policy.specs.Weak.{weak}
 use Rattle.space.specs.declared.config.Config.{Config}
@@ -15,12 +16,13 @@ use Rattle.tuple.specs.declared.field.Tuple.{Tuple}
 use Rattle.tuple.specs.declared.field.Call.{Call}
 use Rattle.tuple.specs.Refusals.{refusal}
 
--- on the tuples that the space holds: 0, bare, permits all; 1 is weak, 2 and 3 rest on proposals; no other number permits anything
+-- on the tuples that the space holds: 0, bare, permits all; 1 is weak, 2 and 3 rest on proposals, 4 has the shared list; no other number permits anything
 unfoldable pub verdictOn : Config → List Tuple → Call → Verdict
 verdictOn config tuples call =
     cond (eqb (config .policy) 0) Permit
     (cond (eqb (config .policy) 1) (weak call)
-    (cond (hasProposals config) (justified config tuples call) (Refuse (refusal 7))))
+    (cond (hasProposals config) (justified config tuples call)
+    (cond (eqb (config .policy) 4) (shared tuples call) (Refuse (refusal 7)))))
 
 -- on a space whose configuration or count is out of bounds it is 1
 unfoldable pub verdict : Space → Call → Verdict

@@ -1,6 +1,7 @@
 // The access policies: the shapes of decisions, what each policy says of a call, and the verdict by the policy's number.
 mod default;
 mod justified;
+mod listing;
 mod policy;
 mod shape;
 mod verdicts;

@@ -5,6 +5,7 @@ ghost use Rattle.policy.specs.Policies.{verdictOn, verdict as verdict·}
 ghost use Rattle.space.specs.Configs.{sound};
 ghost use Rattle.space.specs.Spaces.{held};
 use crate::justified::justified;
+use crate::listing::shared;
 use crate::verdicts::Verdict;
 use crate::weak::weak;
 use space::Space;
@@ -40,6 +41,9 @@ fn verdict_on(space: Space, call: Call) -> Verdict
     }
     if space.config.has_proposals() {
         return justified(space, call);
+    }
+    if policy == 4 {
+        return shared(space, call);
     }
     Verdict::Refuse(Refusal::Denied)
 }

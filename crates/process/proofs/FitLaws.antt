@@ -8,7 +8,7 @@ use native.Mathlib.Nat.{zero-div}
 use native.Mathlib.Omega.{arith}
 use lib.Dec.{eqb}
 use borrow.Author.Tests.{eqb-true, eq-eqb, le-leb}
-use Rattle.process.specs.Asks.{given, proposal, decisionEntry}
+use Rattle.process.specs.Asks.{proposal, decisionEntry}
 use Rattle.process.specs.Fits.{isAskedProposal, isRoundDecision, fitsCas}
 use Rattle.process.specs.Procedure.{valueOf}
 use Rattle.space.proofs.CodeLaws.{offered-small, decidable-small}
@@ -24,6 +24,7 @@ use Rattle.tuple.specs.declared.reply.Outcome.{Outcome}
 use Rattle.tuple.specs.declared.reply.Outcome.the-variants as outcome
 use Rattle.tuple.specs.Bounds.{largestCount}
 use Rattle.tuple.specs.Faults.{isBlank, knownHead, fieldFault, fieldsFault, tupleFault, placeBlank, restFrom, restBlank, isEntry}
+use Rattle.tuple.specs.Shapes.{given}
 use Rattle.tuple.specs.Fields.{word, count, offset, processSet, propose, decision, largestOf}
 
 -- ---- a found proposal

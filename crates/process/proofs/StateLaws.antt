@@ -11,6 +11,7 @@ use lib.Seq.{getD-set-same, getD-set-other, set-set, set-getD, ext-getD}
 use borrow.Author.Tests.{eqb-true, eqb-false, eq-eqb, leb-true, leb-false, le-leb, not-true}
 use borrow.Table.Steps.{cases}
 use Rattle.process.specs.declared.process.Process.{Process}
+use Rattle.process.specs.Laws.{StartableRule}
 use Rattle.process.specs.States.{noneFound, startable, codeSound, foundSound, lastEnds, readingSound, decidingSound, phaseSound, wellFormed}
 use Rattle.process.specs.Tallies.{foundOf, backs, backing, settled}
 use Rattle.process.proofs.TallyLaws.{reading-ends, settled-rule, backing-part}
@@ -19,7 +20,7 @@ use Rattle.space.specs.Bounds.{processes}
 use Rattle.space.specs.Configs.{sound, hasProposals, known}
 use Rattle.space.specs.Proposals.{offered}
 use Rattle.space.specs.Shapes.{inRounds}
-use Rattle.space.proofs.ConfigLaws.{sound-range}
+use Rattle.space.proofs.ConfigLaws.{sound-range, proposals-rule}
 use Rattle.tuple.specs.Offsets.{bottom}
 
 -- ---- the parts of a well-formed state
@@ -38,6 +39,13 @@ startable-parts config h =
     let parts = and-eq-true-iff (sound config) _ .0 h in
     let s = sound-range config (parts .0) in
     record { some = s .0; few = s .1; faulty = s .2; safe = parts .0; rests = parts .1 }
+
+pub startable-rule : StartableRule
+unfolding startable
+startable-rule config = (
+  λ h. let parts = startable-parts config h in (parts .safe, proposals-rule config .0 (parts .rests)),
+  λ h. rw (h .0, proposals-rule config .1 (h .1)),
+)
 
 pub known-rule : (config : Config) (k : ℕ) → (known config k ≡ true) ↔ ((1 ≤ k) × (k ≤ config .n))
 unfolding known

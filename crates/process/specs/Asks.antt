@@ -4,14 +4,8 @@ use mathlib.Core.List.{[], _∷_}
 use Rattle.tuple.specs.declared.field.Field.{Field}
 use Rattle.tuple.specs.declared.field.Tuple.{Tuple}
 use Rattle.tuple.specs.declared.field.Call.{Call}
-use Rattle.tuple.specs.Fields.{word, count, offset, processSet, defined, wildcard, formal, propose, decision, out, rdp, cas, blankField, blankTuple}
-
--- a field with a value, and one without
-abbrev pub given : ℕ → ℕ → Field
-given kind value = record { kind = kind; state = defined; value = value }
-
-abbrev pub undefined : ℕ → ℕ → Field
-undefined kind state = record { kind = kind; state = state; value = 0 }
+use Rattle.tuple.specs.Fields.{word, count, offset, processSet, wildcard, formal, propose, decision, out, rdp, cas, blankField, blankTuple}
+use Rattle.tuple.specs.Shapes.{given, undefined}
 
 abbrev pub four : Field → Field → Field → Field → Tuple
 four a b c d = record { count = 4; fields = a ∷ b ∷ c ∷ d ∷ blankField ∷ blankField ∷ [] }

@@ -18,7 +18,7 @@ use Rattle.process.specs.States.{startable, foundSound, wellFormed}
 use Rattle.process.specs.Tallies.{foundOf, backs, backing, backingSet, backed, settled, total, nextAfter}
 use Rattle.space.specs.declared.config.Config.{Config}
 use Rattle.space.specs.Bounds.{processes, rounds}
-use Rattle.space.specs.Configs.{known}
+use Rattle.space.specs.Configs.{sound, known}
 use Rattle.space.specs.Members.{Member}
 use Rattle.policy.specs.Shapes.{decidedCode}
 use Rattle.space.specs.Proposals.{offered}
@@ -58,6 +58,10 @@ abbrev pub ChoiceFits : Type 0
 ChoiceFits = (process : Process) (reply : Reply) → process .config .policy ≡ 3 → fits process reply ≡ true → ChoiceFit process reply
 
 -- ---- what starting and handing a reply answer
+
+-- a process starts under a sound configuration of policy 2 or 3, and under no other
+abbrev pub StartableRule : Type 0
+StartableRule = (config : Config) → (startable config ≡ true) ↔ ((sound config ≡ true) × ((config .policy ≡ 2) ⊎ (config .policy ≡ 3)))
 
 -- starting is refused with 1, 6, 3: the first that holds
 pub record StartOrder (config : Config) (process round : ℕ) (offset : Offset) : Type 0 where

@@ -1,6 +1,7 @@
 // The calls that a process makes.
 ghost use mathlib.Core.Path.{_≡_};
-ghost use Rattle.process.specs.Asks.{given as given·, undefined as undefined·, four as four·, outCall, rdpCall, casCall};
+ghost use Rattle.process.specs.Asks.{four as four·, outCall, rdpCall, casCall};
+ghost use Rattle.tuple.specs.Shapes.{given as given·, undefined as undefined·};
 use tuple::CAS;
 use tuple::COUNT;
 use tuple::Call;

@@ -29,7 +29,7 @@ use Rattle.calls.specs.Turns.{last}
 use Rattle.calls.specs.RunLaws.{JustifiedRule}
 use Rattle.calls.proofs.Advances.{Kind, Tidy, Advance, advance}
 use Rattle.space.proofs.CodeLaws.{bottom-default}
-use Rattle.space.proofs.ConfigLaws.{sound-rule, sound-range, proposals-rule, proposals-some}
+use Rattle.space.proofs.ConfigLaws.{sound-rule, sound-range, proposals-rule, proposals-some, proposals-deciding}
 use Rattle.calls.proofs.JustifiedLaws.{justified-rules}
 use Rattle.calls.proofs.Effects.{Proposal, no-inp}
 use Rattle.policy.proofs.PolicyLaws.{out-rule, rdp-rule, decision-call, cas-offset-rule, cas-bottom-rule}
@@ -89,7 +89,7 @@ module _ {config : Config} (safe : SoundConfig config) where
       decision (rw strong at (d .shape)) (d .members config-rests) (d .may config-rests)
 
   pub config-advance : (tuples : List Tuple) → Tidy config tuples → (call : Call) → Advance config tuples call
-  config-advance = advance config config-sound (omega (arith, config-strict))
+  config-advance = advance config config-sound (proposals-deciding config config-rests)
 
   pub config-run : (calls : List Call) → Run config (last config calls)
   config-run calls = after-run calls (fresh-run config config-sound)

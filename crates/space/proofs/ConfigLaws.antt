@@ -86,9 +86,16 @@ proposals-rule config = (
 pub proposals-some : (config : Config) → hasProposals config ≡ true → 2 ≤ config .policy
 proposals-some config rests = ⊎-elim (λ two. omega arith) (λ three. omega arith) (proposals-rule config .0 rests)
 
--- a sound policy but 0 and 1
-pub strict-proposals : (config : Config) → sound config ≡ true → 1 ≤ config .policy → (config .policy ≡ 1 → ⊥) → hasProposals config ≡ true
-strict-proposals config safe strict other =
+-- the policies under which rounds are decided
+abbrev pub Deciding : Config → Type 0
+Deciding config = (1 ≤ config .policy) × (config .policy ≤ 3)
+
+-- one of these but 1
+pub deciding-proposals : (config : Config) → Deciding config → (config .policy ≡ 1 → ⊥) → hasProposals config ≡ true
+deciding-proposals config deciding other =
     proposals-rule config .1 (cases (eqb (config .policy) 2)
     (λ e. inl (eqb-true (config .policy) 2 e))
-    (λ e. inr (omega (arith, sound-range config safe, other, eqb-false (config .policy) 2 e))))
+    (λ e. inr (omega (arith, deciding, other, eqb-false (config .policy) 2 e))))
+
+pub proposals-deciding : (config : Config) → hasProposals config ≡ true → Deciding config
+proposals-deciding config rests = ⊎-elim (λ two. (omega arith, omega arith)) (λ three. (omega arith, omega arith)) (proposals-rule config .0 rests)

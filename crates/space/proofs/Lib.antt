@@ -2,6 +2,7 @@ pub mod CodeLaws
 pub mod ConfigLaws
 pub mod FormedLaws
 pub mod Lengths
+pub mod ListLaws
 pub mod MemberLaws
 mod MemberSteps
 pub mod ProposalLaws

@@ -6,30 +6,33 @@ use mathlib.Core.List.{List}
 use Prim.Native.Nat.{ℕ, _+_, _*_, _≤_, _<_}
 use lib.Count.{ones}
 use lib.IntN.{pos}
-use lib.ListN.{getD}
+use lib.ListN.{length, getD}
 use Rattle.space.specs.declared.config.Config.{Config}
 use Rattle.space.specs.declared.proposal.Sought.the-variants.{One, Some, Any}
 use Rattle.space.specs.declared.space.Space.{Space}
 use Rattle.space.specs.Configs.{sound, hasProposals}
+use Rattle.space.specs.Lists.{isListTuple, listTuple, positionOf, serialOf, shiftCode, isFilled, isListed, Filled, Listed}
 use Rattle.space.specs.Members.{Member, within, every, counted}
 use Rattle.space.specs.Proposals.{offered, decidable, proposed, backers, crowded, Placed, Proposed}
+use Rattle.space.specs.Shapes.{processOf}
 use Rattle.space.specs.Spaces.{wellFormed, Typed, Tidy}
 use Rattle.tuple.specs.declared.field.Tuple.{Tuple}
 use Rattle.tuple.specs.declared.offset.Offset.{Offset}
 use Rattle.tuple.specs.declared.offset.Offset.the-variants.{Bottom, Hundredths}
-use Rattle.tuple.specs.Bounds.{capacity}
+use Rattle.tuple.specs.Bounds.{places, capacity}
 use Rattle.tuple.specs.Faults.{isEntry}
 use Rattle.tuple.specs.Fields.{blankTuple}
 use Rattle.tuple.specs.Offsets.{inRange, codeOf}
+use Rattle.tuple.specs.Shapes.{field}
 
 -- ---- configurations
 
--- n is 1 to 15, and the policy at most 3. Policy 3 has a k, 2 to 8, and needs n at least (k + 1)t + 1; under the others k is 0, and n at
+-- n is 1 to 15, and the policy at most 4. Policy 3 has a k, 2 to 8, and needs n at least (k + 1)t + 1; under the others k is 0, and n at
 -- least 3t + 1
 pub record Sound (config : Config) : Type 0 where
   pub some : 1 ≤ config .n
   pub few : config .n ≤ 15
-  pub policy : config .policy ≤ 3
+  pub policy : config .policy ≤ 4
   pub choice : config .policy ≡ 3 → (2 ≤ config .k) × (config .k ≤ 8) × ((config .k + 1) * config .t + 1 ≤ config .n)
   pub others : (config .policy ≡ 3 → ⊥) → (config .k ≡ 0) × (3 * config .t + 1 ≤ config .n)
 
@@ -96,6 +99,38 @@ abbrev pub CrowdedRule : Type 0
 CrowdedRule =
     (config : Config) (tuples : List Tuple) (round set : ℕ)
     → (crowded config tuples round set ≡ false) ↔ ((w : ℕ) → backers config tuples round set w ≤ config .t)
+
+-- ---- the shared list
+
+-- five fields, each given: the word 3, the counts of a position, a process and a serial, and the offset of a shift (kinds 1, 2 and 3; state 0)
+pub record ListTuple (tuple : Tuple) (position process serial code : ℕ) : Type 0 where
+  pub five : tuple .count ≡ 5
+  pub first : field tuple 0 ≡ record { kind = 1; state = 0; value = 3 }
+  pub second : field tuple 1 ≡ record { kind = 2; state = 0; value = position }
+  pub third : field tuple 2 ≡ record { kind = 2; state = 0; value = process }
+  pub fourth : field tuple 3 ≡ record { kind = 2; state = 0; value = serial }
+  pub fifth : field tuple 4 ≡ record { kind = 3; state = 0; value = code }
+
+abbrev pub ListTupleRule : Type 0
+ListTupleRule =
+    (tuple : Tuple)
+    → (isListTuple tuple ≡ true) ↔ ListTuple tuple (positionOf tuple) (processOf tuple) (serialOf tuple) (shiftCode tuple)
+
+-- an entry that is one has nothing else: it is what is made of these
+abbrev pub ListTupleMade : Type 0
+ListTupleMade =
+    (tuple : Tuple)
+    → isEntry tuple ≡ true
+    → length (tuple .fields) ≡ places
+    → (isListTuple tuple ≡ true) ↔ (tuple ≡ listTuple (positionOf tuple) (processOf tuple) (serialOf tuple) (shiftCode tuple))
+
+-- a position is filled exactly when such a tuple stands
+abbrev pub FilledRule : Type 0
+FilledRule = (tuples : List Tuple) (position : ℕ) → (isFilled tuples position ≡ true) ↔ Filled tuples position
+
+-- a process and a serial are listed exactly when such a tuple stands
+abbrev pub ListedRule : Type 0
+ListedRule = (tuples : List Tuple) (process serial : ℕ) → (isListed tuples process serial ≡ true) ↔ Listed tuples process serial
 
 -- ---- spaces
 

@@ -1,7 +1,8 @@
-// The tuple space: its bounds and configuration, sets of processes, what may be proposed and who has proposed what, and the record with its
-// test and a fresh one.
+// The tuple space: its bounds and configuration, sets of processes, what may be proposed and who has proposed what, what the shared list holds, and
+// the record with its test and a fresh one.
 mod bounds;
 mod config;
+mod list;
 mod member;
 mod proposal;
 mod shape;
@@ -11,6 +12,9 @@ pub use bounds::LAST_POLICY;
 pub use bounds::PROCESSES;
 pub use bounds::ROUNDS;
 pub use config::Config;
+pub use list::is_filled;
+pub use list::is_list_tuple;
+pub use list::is_listed;
 pub use member::within;
 pub use proposal::Sought;
 pub use proposal::crowded;

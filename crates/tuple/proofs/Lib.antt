@@ -1,5 +1,6 @@
 pub mod Blanks
 pub mod FaultLaws
+pub mod FieldLaws
 pub mod Lengths
 pub mod Lists
 pub mod MatchRules

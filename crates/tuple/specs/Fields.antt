@@ -41,6 +41,9 @@ propose = 1
 abbrev pub decision : ℕ
 decision = 2
 
+abbrev pub listing : ℕ
+listing = 3
+
 -- ---- the codes of the calls
 
 abbrev pub out : ℕ

@@ -28,6 +28,8 @@ pub const PROPOSE: u64 = 1;
 
 pub const DECISION: u64 = 2;
 
+pub const LISTING: u64 = 3;
+
 // The codes of the calls.
 pub const OUT: u8 = 1;
 

@@ -26,6 +26,7 @@ pub use field::DEFINED;
 pub use field::FORMAL;
 pub use field::Field;
 pub use field::INP;
+pub use field::LISTING;
 pub use field::OFFSET;
 pub use field::OUT;
 pub use field::PROCESS_SET;

@@ -1,10 +1,12 @@
 //! Why policies 2 and 3 deny a call (02, 2.3), worked out member by member and apart from the plain version's policies: each cause of 12
-//! and 13 by itself, and the 7s beside them, counted.
+//! and 13 by itself, and the 7s beside them, counted. Under policy 4 `lists` judges.
 
 use std::collections::BTreeMap;
 
-use reference::policy::{DEFAULT, LAST_ROUND, STRONG};
+use reference::policy::{DEFAULT, LAST_ROUND, LIST, STRONG};
 use reference::{Answer, AnswerKind, Board, Call, Config, Offset, Tuple};
+
+use super::lists::Lists;
 
 /// Why a call is denied.
 #[derive(Clone, Copy, Debug, PartialEq, Eq, PartialOrd, Ord)]
@@ -189,18 +191,24 @@ fn members(board: &Board, round: u64, seats: u64) -> Vec<Vec<u64>> {
 
 /// How often each cause came.
 #[derive(Default)]
-pub struct Denials(BTreeMap<(u64, Cause), usize>);
+pub struct Denials {
+    came: BTreeMap<(u64, Cause), usize>,
+    pub lists: Lists,
+}
 
 impl Denials {
     /// Holds the answer to a call on this board against its cause, and counts it.
     pub fn note(&mut self, before: &Board, call: &Call, answer: &Answer) {
+        let policy = before.config.policy;
+        if policy == LIST {
+            return self.lists.note(before, call, answer);
+        }
         let denial = match answer.kind {
             AnswerKind::Refused(refusal) if [7, 12, 13].contains(&refusal.number()) => Some(refusal.number()),
             // 8 comes behind these; what is refused before them is not judged.
             AnswerKind::Refused(refusal) if refusal.number() != 8 => return,
             _ => None,
         };
-        let policy = before.config.policy;
         if policy < DEFAULT {
             assert!(matches!(denial, None | Some(7)), "{call:?} under policy {policy}");
             return;
@@ -208,15 +216,16 @@ impl Denials {
         let cause = Cause::of(before, call);
         assert_eq!(denial, cause.map(Cause::number), "{cause:?}: {call:?} on {before:?}");
         if let Some(cause) = cause {
-            *self.0.entry((policy, cause)).or_default() += 1;
+            *self.came.entry((policy, cause)).or_default() += 1;
         }
     }
 
-    /// Prints what came under policies 2 and 3.
+    /// Prints what came under policies 2, 3 and 4.
     pub fn print(&self) {
         for policy in [DEFAULT, STRONG] {
             for number in [12, 13, 7] {
-                let came = self.0.iter().filter(|((p, cause), _)| (*p, cause.number()) == (policy, number));
+                let came =
+                    self.came.iter().filter(|((p, cause), _)| (*p, cause.number()) == (policy, number));
                 let came: Vec<String> =
                     came.map(|((_, cause), often)| format!("{cause:?} {often}")).collect();
                 if !came.is_empty() {
@@ -224,12 +233,13 @@ impl Denials {
                 }
             }
         }
+        self.lists.print();
     }
 
     /// Each of these causes came so often at least under this policy.
     pub fn assert_each(&self, policy: u64, causes: &[Cause], least: usize) {
         for cause in causes {
-            let often = self.0.get(&(policy, *cause)).copied().unwrap_or(0);
+            let often = self.came.get(&(policy, *cause)).copied().unwrap_or(0);
             assert!(often >= least, "{cause:?} came {often} times under policy {policy}");
         }
     }

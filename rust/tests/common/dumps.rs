@@ -5,11 +5,11 @@ use std::collections::BTreeMap;
 
 use reference::board::MOST_TUPLES;
 use reference::dump::LONGEST_DUMP;
-use reference::policy::{BARE, STRONG, WEAK};
+use reference::policy::{BARE, LIST, STRONG, WEAK};
 use reference::records::Reader;
 use reference::script::run;
 use reference::{flat, sys};
-use reference::{Answer, Board, Config, Kind, Refusal, Tuple};
+use reference::{Answer, Board, Code, Config, Kind, Refusal, Tuple};
 
 use super::reached::{flaw, Flaw};
 use super::{compare_dump, Dice, CHOICES, POLICIES, VALUES};
@@ -77,7 +77,7 @@ impl Dumps {
     /// Prints what came under each policy.
     pub fn print(&self) {
         for (policy, Came { written, unsound, unreached, short }) in &self.came {
-            if *policy > STRONG {
+            if *policy > LIST {
                 continue;
             }
             println!(
@@ -134,12 +134,15 @@ fn ends_in(script: &[u8], board: &Board) {
 
     let mut plain = Board::fresh(board.config).expect("a sound set-up");
     let mut reader = Reader::new(&script[numbers.len()..]);
-    while !reader.at_end() {
+    for tuple in board.held() {
+        let start = reader.taken();
         let call = reader.record().expect("a record");
+        assert_eq!((call.process.into(), call.code), writer(policy, tuple), "{call:?}");
+        assert!(policy != LIST || reader.taken() - start <= 27, "{call:?}");
         let answer = plain.call(&call);
         assert!([Ok(Answer::DONE), Ok(Answer::INSERTED)].contains(&answer), "{answer:?} to {call:?}");
     }
-    assert!(plain == *board, "{script:02X?} ends in {plain:?}, not in {board:?}");
+    assert!(reader.at_end() && plain == *board, "{script:02X?} ends in {plain:?}, not in {board:?}");
 
     let text = text_of(board, &numbers);
     let mut buffer = vec![0; text.len() + 1];
@@ -149,18 +152,26 @@ fn ends_in(script: &[u8], board: &Board) {
     assert_eq!(run(script), text, "{script:02X?}");
 }
 
+/// By whom, and by which call, this tuple is written.
+fn writer(policy: u64, tuple: &Tuple) -> (u64, u8) {
+    let [word, _, third, ..] = tuple.fields.map(|field| field.value);
+    match policy {
+        BARE => (1, Code::Out as u8),
+        WEAK => (1, Code::Cas as u8),
+        LIST => (third, Code::Cas as u8),
+        _ if word == 1 => (third, Code::Out as u8),
+        _ => (1, Code::Cas as u8),
+    }
+}
+
 /// What the program prints for a script that appends this board's tuples: nothing but done and inserted between the first line and the
 /// last.
 fn text_of(board: &Board, numbers: &[u64]) -> String {
     let numbers: Vec<String> = numbers.iter().map(u64::to_string).collect();
     let mut text = format!("board {}\n", numbers.join(" "));
     for (number, tuple) in (1..).zip(board.held()) {
-        let done = match board.config.policy {
-            BARE => true,
-            WEAK => false,
-            _ => tuple.fields[0].value == 1,
-        };
-        text += &format!("{number} {}\n", if done { "done" } else { "inserted" });
+        let (_, code) = writer(board.config.policy, tuple);
+        text += &format!("{number} {}\n", if code == Code::Out as u8 { "done" } else { "inserted" });
     }
     text + &format!("tuples {}\n", board.count)
 }
@@ -223,7 +234,7 @@ fn change_set_up(dice: &mut Dice, config: &mut Config) {
         3 if config.policy == STRONG => config.k = near(dice, config.k),
         3 => config.k = dice.pick(&CHOICES),
         _ => {
-            config.policy = dice.pick(&POLICIES[..5]);
+            config.policy = dice.pick(&POLICIES[..6]);
             config.k = if config.policy == STRONG { 2 + dice.below(3) } else { 0 };
         }
     }

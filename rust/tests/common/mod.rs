@@ -5,10 +5,12 @@
 
 pub mod denials;
 pub mod dumps;
+pub mod lists;
 pub mod reached;
 
 use reference::dump::dump_into;
 use reference::fields::{MOST_FIELDS, MOST_SEATS};
+use reference::list::LAST_POSITION;
 use reference::policy::STRONG;
 use reference::records::{read_record, record_of, write_record};
 use reference::script::run_into;
@@ -53,8 +55,8 @@ impl Dice {
     }
 }
 
-/// Values at the bounds of 01, and around them.
-pub const VALUES: [u64; 30] = [
+/// Values at the bounds of 01 and 02, and around them.
+pub const VALUES: [u64; 33] = [
     0,
     1,
     2,
@@ -68,6 +70,9 @@ pub const VALUES: [u64; 30] = [
     MOST_SEATS - 1,
     MOST_SEATS,
     MOST_SEATS + 1,
+    LAST_POSITION - 1,
+    LAST_POSITION,
+    LAST_POSITION + 1,
     127,
     128,
     129,
@@ -94,7 +99,7 @@ pub const CODES: [u8; 7] = [0, 1, 2, 3, 4, 5, 255];
 pub const SEATS: [u32; 9] = [0, 1, 2, 4, 5, MOST_SEATS as u32, MOST_SEATS as u32 + 1, 127, u32::MAX];
 
 /// Every policy, and numbers that are none's.
-pub const POLICIES: [u64; 6] = [0, 1, 2, 3, 4, u64::MAX];
+pub const POLICIES: [u64; 7] = [0, 1, 2, 3, 4, 5, u64::MAX];
 
 /// How many choices: all of policy 3, and beyond its bounds.
 pub const CHOICES: [u64; 12] = [0, 1, 2, 3, 4, 5, 6, 7, 8, 9, 4_294_967_295, u64::MAX];
@@ -115,7 +120,7 @@ pub fn config_of(dice: &mut Dice, n: u64, policy: u64) -> Config {
 /// A set-up at or beyond its bounds.
 pub fn odd_config(dice: &mut Dice) -> Config {
     let n = dice.pick(&[0, 1, 3, 4, 5, 6, 7, 9, 10, MOST_SEATS, MOST_SEATS + 1, u64::MAX]);
-    let policy = dice.pick(&[0, 1, 2, 3, 3, 4, u64::MAX]);
+    let policy = dice.pick(&[0, 1, 2, 3, 3, 4, 5, u64::MAX]);
     let k = if policy == STRONG || dice.one_in(3) { dice.pick(&CHOICES) } else { 0 };
     Config { n, t: dice.pick(&STRAYS), policy, k }
 }

@@ -1,18 +1,18 @@
 //! Whether any script ends in a well-formed board (02, 2.4), by a rule over the order of its tuples and without a run: every tuple must be
-//! one that the policy lets somebody append to those before it, since policies 1 to 3 let nobody take one off.
+//! one that the policy lets somebody append to those before it, since policies 1 to 4 let nobody take one off.
 
-use reference::policy::{BARE, DEFAULT, LAST_ROUND, STRONG, WEAK};
+use reference::policy::{BARE, DEFAULT, LAST_ROUND, LIST, STRONG, WEAK};
 use reference::{Board, Config, Field, Kind, Offset, Tuple};
 
 /// Why nobody may append a tuple to those before it.
 #[derive(Clone, Copy, Debug, PartialEq, Eq, PartialOrd, Ord)]
 pub enum Flaw {
-    /// Under policy 1 no decision, under 2 and 3 neither proposal nor decision.
+    /// Under policy 1 no decision, under 2 and 3 neither proposal nor decision, under 4 no list tuple.
     Shape,
-    /// A proposal of seat 0; of one above n; in a round above 7; of the mark; of what is no choice; after the seat's own in the round,
-    /// equal or other.
+    /// A proposal or a list tuple of seat 0; of one above n.
     SeatZero,
     SeatAbove,
+    /// A proposal in a round above 7; of the mark; of what is no choice; after the seat's own in the round, equal or other.
     ProposedRound,
     ProposedMark,
     ProposedNoChoice,
@@ -31,6 +31,11 @@ pub enum Flaw {
     TooFew,
     Silent,
     Crowded,
+    /// A list tuple whose position is not its place; behind the 112th; of the mark; of a seat and serial that stand before it.
+    Misplaced,
+    Beyond,
+    ListedMark,
+    ListedAgain,
 }
 
 use Flaw::*;
@@ -55,6 +60,7 @@ impl Flaw {
     ];
     pub const UNDER_2: [Flaw; 1] = [Crowded];
     pub const UNDER_3: [Flaw; 3] = [ProposedNoChoice, DecidedMark, DecidedNoChoice];
+    pub const UNDER_4: [Flaw; 6] = [Shape, SeatZero, SeatAbove, Misplaced, ListedMark, ListedAgain];
 }
 
 /// The flaw of the oldest tuple that has one; no script ends in the board if there is one, and else some script does.
@@ -66,17 +72,20 @@ pub fn flaw(board: &Board) -> Option<Flaw> {
 /// The flaw of the tuple at a place.
 fn flaw_of(config: &Config, held: &[Tuple], place: usize) -> Option<Flaw> {
     let tuple = held[place];
-    let [_, second, third, fourth, ..] = tuple.fields.map(|field| field.value);
-    if config.policy == BARE {
-        None
-    } else if config.policy == WEAK && tuple == weak_decision(second, third) {
-        flaw_of_decision(config, held, place, (second, third, None))
-    } else if config.policy != WEAK && tuple == Tuple::proposal(second, third, fourth) {
-        flaw_of_proposal(config, &held[..place], (second, third, fourth))
-    } else if config.policy != WEAK && tuple == Tuple::decision(second, third, fourth) {
-        flaw_of_decision(config, held, place, (second, third, Some(fourth)))
-    } else {
-        Some(Shape)
+    let [_, second, third, fourth, fifth, _] = tuple.fields.map(|field| field.value);
+    match config.policy {
+        BARE => None,
+        WEAK if tuple == weak_decision(second, third) => {
+            flaw_of_decision(config, held, place, (second, third, None))
+        }
+        DEFAULT | STRONG if tuple == Tuple::proposal(second, third, fourth) => {
+            flaw_of_proposal(config, &held[..place], (second, third, fourth))
+        }
+        DEFAULT | STRONG if tuple == Tuple::decision(second, third, fourth) => {
+            flaw_of_decision(config, held, place, (second, third, Some(fourth)))
+        }
+        LIST if tuple == Tuple::listed(second, third, fourth, fifth) => flaw_of_listed(config, held, place),
+        _ => Some(Shape),
     }
 }
 
@@ -103,6 +112,22 @@ fn flaw_of_proposal(
         Some(own) if own == offset => Some(SameAgain),
         Some(_) => Some(OtherAgain),
         None => None,
+    }
+}
+
+/// Each list tuple has the position of its place, from 1, so that none stands before its turn and no position is taken twice.
+fn flaw_of_listed(config: &Config, held: &[Tuple], place: usize) -> Option<Flaw> {
+    let counts = |tuple: &Tuple| [1, 2, 3].map(|at| tuple.fields[at].value);
+    let [position, seat, serial] = counts(&held[place]);
+    match position {
+        _ if position != place as u64 + 1 => Some(Misplaced),
+        113.. => Some(Beyond),
+        _ if seat == 0 => Some(SeatZero),
+        _ if seat > config.n => Some(SeatAbove),
+        _ if held[place].fields[4].value == Offset::MARK => Some(ListedMark),
+        // Those before it have no flaw, so they are list tuples.
+        _ if held[..place].iter().any(|other| counts(other)[1..] == [seat, serial]) => Some(ListedAgain),
+        _ => None,
     }
 }
 

@@ -1,0 +1,262 @@
+-- Every list that can be picked is the list of some run, and there all processes have read all of it: each entry is inserted in its turn, and then each
+-- process reads position by position.
+use mathlib.Core.Path.{_≡_, refl, sym, ap, _∙_, subst}
+use mathlib.Core.Logic.{inl, inr, ⊎-elim}
+use Prim.Native.Nat.{ℕ, zero, suc, _+_, _≤_, _<_}
+use native.Mathlib.Omega.{arith}
+use mathlib.Core.Bool.{true, false}
+use mathlib.Core.List.{List, [], _∷_, _++_, append-nil, append-assoc, List·Memᴰ, List·Memᴰ·head, List·Memᴰ·tail, List·Memᴰ·not-nil, List·Memᴰ·cases-cons, List·Memᴰ·append-cases, List·Memᴰ·eq-of-singleton, Memᴰ·append-left, Memᴰ·append-right}
+use lib.ListN.{length, getD, length-append}
+use lib.Seq.{append-snoc}
+use lib.Dec.{eqb}
+use borrow.Author.Tests.{eqb-true, eqb-false, le-leb}
+use borrow.Table.Steps.{cases}
+use Rattle.calls.specs.declared.turn.Applied.{Applied}
+use Rattle.calls.specs.Changes.{carriedOut}
+use Rattle.calls.specs.Effects.{effect}
+use Rattle.calls.specs.ListLaws.{Pick, Able, noPick, EveryList}
+use Rattle.calls.specs.Lists.{listAfter, listCas, Tells, ReadTo}
+use Rattle.calls.specs.Lists.Tells.{finds}
+use Rattle.calls.specs.Turns.{Turn, applied, turnsFrom, turns, lastOf, after, last}
+use Rattle.calls.proofs.CallLaws.{permitted-applied}
+use Rattle.calls.proofs.ListSteps.{Entry, Orderly, orderly-none, each-more, list-advance}
+use Rattle.calls.proofs.ListingLaws.{left, list-found, next-space}
+use Rattle.calls.proofs.RunSteps.{next, none-lawful, fresh-space}
+use Rattle.calls.proofs.SumLaws.{after-append}
+use Rattle.policy.specs.Listing.{listTemplate, positions}
+use Rattle.policy.proofs.ListingLaws.{list-rule}
+use Rattle.space.specs.declared.config.Config.{Config}
+use Rattle.space.specs.declared.space.Space.{Space}
+use Rattle.space.specs.Configs.{sound}
+use Rattle.space.specs.Lists.{listTuple, serialOf, shiftCode}
+use Rattle.space.specs.Shapes.{processOf}
+use Rattle.space.specs.Spaces.{held, spaceOf}
+use Rattle.space.proofs.SpaceRules.{Lawful, held-of, formed-of, place}
+use Rattle.tuple.specs.declared.fault.Fault.the-variants.{Absent}
+use Rattle.tuple.specs.declared.field.Tuple.{Tuple}
+use Rattle.tuple.specs.declared.field.Call.{Call}
+use Rattle.tuple.specs.declared.matching.Found.the-variants.{At}
+use Rattle.tuple.specs.declared.reply.Outcome.the-variants.{Found}
+use Rattle.tuple.specs.Bounds.{largestCount}
+use Rattle.tuple.specs.Faults.{callFault, usedFault, usesTemplate, usesEntry, partFault, tupleFault, fieldsFault, fieldFault, knownHead, restBlank, restFrom, placeBlank, isBlank}
+use Rattle.tuple.specs.Fields.{rdp, largestOf, blankTuple}
+use Rattle.tuple.specs.Matching.{oldestOf, matches}
+use Rattle.tuple.proofs.MatchRules.{oldest-rule}
+
+-- ---- filling the list: at each position what is picked, under the position as the serial
+
+entries : ℕ → List Pick → List Tuple
+entries at [] = []
+entries at (pick ∷ picks) = listTuple at (pick .process) at (pick .code) ∷ entries (at + 1) picks
+
+fills : ℕ → List Pick → List Call
+fills at [] = []
+fills at (pick ∷ picks) = listCas (pick .process) at at (pick .code) ∷ fills (at + 1) picks
+
+entries-length : (at : ℕ) (picks : List Pick) → length (entries at picks) ≡ length picks
+unfolding entries
+entries-length at [] = refl
+entries-length at (pick ∷ picks) = ap suc (entries-length (at + 1) picks)
+
+entries-picked : (at : ℕ) (picks : List Pick) (i : ℕ) → i < length picks
+    → (processOf (getD (entries at picks) i blankTuple) ≡ getD picks i noPick .process) × (shiftCode (getD (entries at picks) i blankTuple) ≡ getD picks i noPick .code)
+unfolding entries
+entries-picked at [] i h = absurd (omega arith)
+entries-picked at (pick ∷ picks) zero h = (refl, refl)
+entries-picked at (pick ∷ picks) (suc i) h = entries-picked (at + 1) picks i (omega arith)
+
+-- a list in order whose serials are its positions
+record Numbered (tuples : List Tuple) : Type 0 where
+  orderly : Orderly tuples
+  lawful : Lawful tuples
+  serials : (i : ℕ) → i < length tuples → serialOf (getD tuples i blankTuple) ≡ i + 1
+
+module _ (config : Config) (safe : sound config ≡ true) (is-four : config .policy ≡ 4) where
+  numbered-next : (tuples : List Tuple) → Numbered tuples → (pick : Pick) → Able config pick → length tuples < positions
+      → let at = length tuples + 1 in
+      let entry = listTuple at (pick .process) at (pick .code) in
+      Numbered (tuples ++ (entry ∷ [])) × (applied (spaceOf config tuples) (listCas (pick .process) at at (pick .code)) .space ≡ spaceOf config (tuples ++ (entry ∷ [])))
+  numbered-next tuples numbered pick able room =
+      let at = length tuples + 1 in
+      let entry = listTuple at (pick .process) at (pick .code) in
+      let call = listCas (pick .process) at at (pick .code) in
+      let more = tuples ++ (entry ∷ []) in
+      let left = next-space config safe is-four tuples (numbered .orderly) (numbered .lawful) (pick .process) at at (pick .code) (omega arith) (omega arith) (omega arith)
+      (able .known .0) (able .known .1) (omega arith) (able .some) (able .small)
+      (λ l. let stood = place tuples (l .stands) in omega (arith, stood .1, numbered .serials (stood .0) (stood .1), ap serialOf (stood .2), l .with-serial)) refl in
+      let step = list-advance config is-four tuples (numbered .orderly) call .keeps in
+      let run = next {call = call} (record { tuples = tuples; lawful = numbered .lawful; same = refl }) .run in
+      let stepped : step .next ≡ more = sym (held-of config (step .next)) ∙ ap held (sym (step .space) ∙ left) ∙ held-of config more in
+      let ran : run .tuples ≡ more = sym (held-of config (run .tuples)) ∙ ap held (sym (run .same) ∙ left) ∙ held-of config more in (
+        record {
+          orderly = subst Orderly stepped (step .kept);
+          lawful = subst Lawful ran (run .lawful);
+          serials = each-more tuples entry (λ (i : ℕ) (t : Tuple). serialOf t ≡ i + 1) (numbered .serials) refl;
+        },
+        left,
+      )
+
+  -- the tuples that filling leaves
+  filled : (picks : List Pick) (tuples : List Tuple) → Numbered tuples → ((pick : Pick) → List·Memᴰ pick picks → Able config pick)
+      → length tuples + length picks ≤ positions
+      → let end = tuples ++ entries (length tuples + 1) picks in
+      Numbered end × (after (spaceOf config tuples) (fills (length tuples + 1) picks) ≡ spaceOf config end)
+  unfolding entries fills lastOf turnsFrom
+  filled [] tuples numbered able room = rw (append-nil tuples) (numbered, refl)
+  filled (pick ∷ picks) tuples numbered able room =
+      let at = length tuples + 1 in
+      let entry = listTuple at (pick .process) at (pick .code) in
+      let more = tuples ++ (entry ∷ []) in
+      let step = numbered-next tuples numbered pick (able pick (List·Memᴰ·head refl)) (omega arith) in
+      let long : length more ≡ at = length-append tuples (entry ∷ []) in
+      let later = filled picks more (step .0) (λ c m. able c (List·Memᴰ·tail m)) (omega (arith, long)) in
+      let same : more ++ entries (at + 1) picks ≡ tuples ++ (entry ∷ entries (at + 1) picks) = append-snoc tuples entry (entries (at + 1) picks) in
+      let end = subst (λ (k : ℕ). Numbered (more ++ entries (k + 1) picks) × (after (spaceOf config more) (fills (k + 1) picks) ≡ spaceOf config (more ++ entries (k + 1) picks))) long later in (
+        subst Numbered same (end .0),
+        ap (λ (s : Space). after s (fills (at + 1) picks)) (step .1) ∙ end .1 ∙ ap (spaceOf config) same,
+      )
+
+-- ---- reading it: each process reads each position by rdp, which changes nothing
+
+readAt : ℕ → ℕ → Call
+readAt process position = record { process = process; code = rdp; template = listTemplate position; entry = blankTuple }
+
+-- the positions 1 to m
+sweep : ℕ → ℕ → List Call
+sweep process zero = []
+sweep process (suc m) = readAt process (m + 1) ∷ sweep process m
+
+-- by the processes 1 to n
+sweeps : ℕ → ℕ → List Call
+sweeps zero m = []
+sweeps (suc n) m = sweep (n + 1) m ++ sweeps n m
+
+-- one of these calls
+record Reads (n m : ℕ) (call : Call) : Type 0 where
+  process : ℕ
+  i : ℕ
+  some : 1 ≤ process
+  few : process ≤ n
+  below : i < m
+  is : call ≡ readAt process (i + 1)
+
+sweep-reads : (n process m : ℕ) → 1 ≤ process → process ≤ n → (call : Call) → List·Memᴰ call (sweep process m) → Reads n m call
+unfolding sweep
+sweep-reads n process zero some few call none = absurd (List·Memᴰ·not-nil none)
+sweep-reads n process (suc m) some few call occurs =
+    ⊎-elim (λ e. record { process = process; i = m; some = some; few = few; below = omega arith; is = e })
+    (λ later. let rest = sweep-reads n process m some few call later in
+    record { process = rest .process; i = rest .i; some = rest .some; few = rest .few; below = omega (arith, rest .below); is = rest .is })
+    (List·Memᴰ·cases-cons occurs)
+
+sweeps-read : (n m : ℕ) (call : Call) → List·Memᴰ call (sweeps n m) → Reads n m call
+unfolding sweeps
+sweeps-read zero m call none = absurd (List·Memᴰ·not-nil none)
+sweeps-read (suc n) m call occurs =
+    ⊎-elim (λ here. sweep-reads (suc n) (n + 1) m (omega arith) (omega arith) call here)
+    (λ later. let rest = sweeps-read n m call later in
+    record { process = rest .process; i = rest .i; some = rest .some; few = omega (arith, rest .few); below = rest .below; is = rest .is })
+    (List·Memᴰ·append-cases (sweep (n + 1) m) occurs)
+
+sweep-has : (process m i : ℕ) → i < m → List·Memᴰ (readAt process (i + 1)) (sweep process m)
+unfolding sweep
+sweep-has process zero i h = absurd (omega arith)
+sweep-has process (suc m) i h =
+    cases (eqb i m)
+    (λ e. List·Memᴰ·head (ap (λ (k : ℕ). readAt process (k + 1)) (eqb-true i m e)))
+    (λ e. List·Memᴰ·tail (sweep-has process m i (omega (arith, eqb-false i m e))))
+
+sweeps-have : (n m process i : ℕ) → 1 ≤ process → process ≤ n → i < m → List·Memᴰ (readAt process (i + 1)) (sweeps n m)
+unfolding sweeps
+sweeps-have zero m process i some few h = absurd (omega arith)
+sweeps-have (suc n) m process i some few h =
+    cases (eqb process (n + 1))
+    (λ e. let here : List·Memᴰ (readAt process (i + 1)) (sweep (n + 1) m) = rw (eqb-true process (n + 1) e) (sweep-has (n + 1) m i h) in
+    Memᴰ·append-left (sweeps n m) here)
+    (λ e. Memᴰ·append-right (sweep (n + 1) m) (sweeps-have n m process i some (omega (arith, eqb-false process (n + 1) e)) h))
+
+read-faultless : (process position : ℕ) → position ≤ largestCount → callFault (readAt process position) ≡ Absent
+unfolding readAt callFault usedFault usesTemplate usesEntry partFault tupleFault fieldsFault fieldFault knownHead largestOf restBlank restFrom placeBlank isBlank
+read-faultless process position small = rw (le-leb position largestCount small)
+
+turnOf : Space → Call → Turn
+turnOf space call = record { call = call; reply = applied space call .reply; space = applied space call .space }
+
+-- calls that leave a space as it is each make their turn on it
+module _ (space : Space) where
+  after-still : (calls : List Call) → ((call : Call) → List·Memᴰ call calls → applied space call .space ≡ space) → after space calls ≡ space
+  unfolding lastOf turnsFrom
+  after-still [] still = refl
+  after-still (call ∷ calls) still = rw (still call (List·Memᴰ·head refl)) (after-still calls (λ c m. still c (List·Memᴰ·tail m)))
+
+  turns-still : (calls : List Call) → ((call : Call) → List·Memᴰ call calls → applied space call .space ≡ space) → (call : Call) → List·Memᴰ call calls
+      → List·Memᴰ (turnOf space call) (turnsFrom space calls)
+  unfolding turnOf turnsFrom
+  turns-still [] still call none = absurd (List·Memᴰ·not-nil none)
+  turns-still (first ∷ calls) still call occurs =
+      ⊎-elim (λ e. List·Memᴰ·head (ap (turnOf space) e))
+      (λ later. List·Memᴰ·tail (rw (still first (List·Memᴰ·head refl)) (turns-still calls (λ c m. still c (List·Memᴰ·tail m)) call later)))
+      (List·Memᴰ·cases-cons occurs)
+
+turns-behind : (space : Space) (before calls : List Call) (turn : Turn) → List·Memᴰ turn (turnsFrom (after space before) calls) → List·Memᴰ turn (turnsFrom space (before ++ calls))
+unfolding lastOf turnsFrom
+turns-behind space [] calls turn m = m
+turns-behind space (call ∷ before) calls turn m = List·Memᴰ·tail (turns-behind (applied space call .space) before calls turn m)
+
+module _ (config : Config) (safe : sound config ≡ true) (is-four : config .policy ≡ 4) (tuples : List Tuple) (numbered : Numbered tuples) where
+  read-applied : (process i : ℕ) → 1 ≤ process → process ≤ config .n → i < length tuples → length tuples ≤ positions
+      → applied (spaceOf config tuples) (readAt process (i + 1)) ≡ record { reply = record { outcome = Found; tuple = getD tuples i blankTuple }; space = spaceOf config tuples }
+  unfolding readAt effect carriedOut
+  read-applied process i some few below short =
+      permitted-applied (spaceOf config tuples) (readAt process (i + 1)) (formed-of config tuples safe (numbered .lawful)) (read-faultless process (i + 1) (omega arith)) (some, few)
+      (rw (held-of config tuples) (list-rule config tuples (readAt process (i + 1)) is-four .1 (inl refl)))
+      ∙ rw (held-of config tuples, list-found (numbered .orderly) i below) refl
+
+  -- where they read, the space stays
+  still : length tuples ≤ positions → (call : Call) → List·Memᴰ call (sweeps (config .n) (length tuples)) → applied (spaceOf config tuples) call .space ≡ spaceOf config tuples
+  still short call occurs =
+      let reads = sweeps-read (config .n) (length tuples) call occurs in
+      ap (λ (c : Call). applied (spaceOf config tuples) c .space) (reads .is)
+      ∙ ap (λ (a : Applied). a .space) (read-applied (reads .process) (reads .i) (reads .some) (reads .few) (reads .below) short)
+
+pub every-list : EveryList
+unfolding turns turnOf readAt
+every-list config picks safe is-four short able =
+    let start : Numbered [] = record { orderly = orderly-none; lawful = none-lawful; serials = λ i h. absurd (omega arith) } in
+    let fresh = fresh-space config safe in
+    let list = filled config safe is-four picks [] start able (omega arith) in
+    let tuples = entries 1 picks in
+    let numbered = list .0 in
+    let long : length tuples ≡ length picks = entries-length 1 picks in
+    let filling = fills 1 picks in
+    let reading = sweeps (config .n) (length tuples) in
+    let calls = filling ++ reading in
+    let stays = still config safe is-four tuples numbered (omega (arith, long)) in
+    let between : last config filling ≡ spaceOf config tuples = ap (λ (s : Space). after s filling) fresh ∙ list .1 in
+    let end : last config calls ≡ spaceOf config tuples = after-append _ filling reading ∙ ap (λ (s : Space). after s reading) between ∙ after-still (spaceOf config tuples) reading stays in
+    let lists : listAfter config calls ≡ tuples = left config safe is-four calls .lists ∙ sym (left config safe is-four calls .holds) ∙ ap held end ∙ held-of config tuples in (
+      calls,
+      record {
+        many = ap length lists ∙ long;
+        by = rw lists (λ i h. entries-picked 1 picks i h .0);
+        shifted = rw lists (λ i h. entries-picked 1 picks i h .1);
+      },
+      λ process some few. (
+        tuples,
+        record {
+          many = long;
+          each = λ i h. let below : i < length tuples = omega (arith, long) in
+              let call = readAt process (i + 1) in
+              let reads = read-applied config safe is-four tuples numbered process i some few below (omega (arith, long)) in
+              let here = turns-still (spaceOf config tuples) reading stays call (sweeps-have (config .n) (length tuples) process i some few below) in
+              record {
+                turn = turnOf (spaceOf config tuples) call;
+                occurs = turns-behind _ filling reading _ (rw between here);
+                by = refl;
+                shape = numbered .orderly .each i below .shape;
+                at = numbered .orderly .each i below .at;
+                told = finds (ap (λ (a : Applied). a .reply .outcome) reads) (ap (λ (a : Applied). a .reply .tuple) reads);
+              };
+        },
+      ),
+    )

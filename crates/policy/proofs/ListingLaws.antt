@@ -1,0 +1,237 @@
+-- Policy 4 permits exactly what the words of document 02 say, and a template of a position matches exactly the list tuples there.
+use mathlib.Core.Path.{_≡_, refl, sym, ap, _∙_}
+use mathlib.Core.Logic.{_↔_, _⊎_, inl, inr, ⊎-elim}
+use mathlib.Core.Bool.{true, false, false≢true, not, _&&_, _||_, or-true, and-eq-true-iff}
+use mathlib.Core.List.{List, [], _∷_}
+use Prim.Native.Nat.{ℕ, zero, suc, _-_, _≤_, _<_}
+use native.Mathlib.Omega.{arith}
+use lib.ListN.{length, getD}
+use lib.Dec.{leb, eqb}
+use borrow.Author.Tests.{leb-true, leb-false, eqb-true, eqb-false, not-true, le-leb, eq-eqb, ne-eqb}
+use borrow.Table.Steps.{cases}
+use Rattle.policy.specs.declared.verdicts.Verdict.the-variants.{Permit}
+use Rattle.policy.specs.Laws.{ListTemplateRule, ListTemplateMade, ListCall, ListRule, ListDenied}
+use Rattle.policy.specs.Listing.{isListTemplate, listTemplate, positions, samePosition, isShift, isListCall, isNew, begins, follows, isOwn, mayList, shared}
+use Rattle.policy.specs.Policies.{verdictOn}
+use Rattle.policy.proofs.DecisionLaws.{said}
+use Rattle.policy.proofs.PolicyLaws.{demanded, under-shared, otherwise-rule}
+use Rattle.space.specs.Configs.{hasProposals}
+use Rattle.space.specs.Lists.{isListTuple, positionOf, serialOf, shiftCode, isFilled, isListed, Filled, Listed}
+use Rattle.space.specs.Shapes.{processOf}
+use Rattle.space.proofs.ConfigLaws.{proposals-deciding}
+use Rattle.space.proofs.ListLaws.{list-parts, filled-rule, listed-rule}
+use Rattle.space.proofs.ShapeLaws.{four, within-fields}
+use Rattle.tuple.specs.declared.field.Field.{Field}
+use Rattle.tuple.specs.declared.field.Tuple.{Tuple}
+use Rattle.tuple.specs.declared.field.Call.{Call}
+use Rattle.tuple.specs.Faults.{restFrom, restBlank}
+use Rattle.tuple.specs.Fields.{word, count, offset, defined, wildcard, formal, rdp, cas, listing, blankField}
+use Rattle.tuple.specs.Laws.{FieldMatch}
+use Rattle.tuple.specs.Matching.{fieldMatches, matches}
+use Rattle.tuple.specs.Offsets.{bottom}
+use Rattle.tuple.specs.Refusals.{refusal}
+use Rattle.tuple.specs.Shapes.{given, undefined, field, is, says}
+use Rattle.tuple.proofs.Blanks.{rest-blank}
+use Rattle.tuple.proofs.FieldLaws.{kind-state, field-is, field-says, open-field, used-blank, Six, view}
+use Rattle.tuple.proofs.FieldLaws.Six.{six}
+use Rattle.tuple.proofs.MatchRules.{matches-rule}
+
+-- ---- the template
+
+pub record Asks (tuple : Tuple) : Type 0 where
+  pub counted : tuple .count ≡ 5
+  pub named : says word listing (field tuple 0) ≡ true
+  pub position : is count defined (field tuple 1) ≡ true
+  pub process : is count wildcard (field tuple 2) ≡ true
+  pub serial : is count wildcard (field tuple 3) ≡ true
+  pub shift : is offset formal (field tuple 4) ≡ true
+
+pub template-parts : (tuple : Tuple) → isListTemplate tuple ≡ true → Asks tuple
+unfolding isListTemplate
+template-parts tuple h =
+    let last = and-eq-true-iff _ (is offset formal (field tuple 4)) .0 h in
+    let fourth = and-eq-true-iff _ (is count wildcard (field tuple 3)) .0 (last .0) in
+    let front = four (eqb (tuple .count) 5) (says word listing (field tuple 0)) (is count defined (field tuple 1)) (is count wildcard (field tuple 2)) (fourth .0) in
+    record { counted = eqb-true _ _ (front .0); named = front .1; position = front .2; process = front .3; serial = fourth .1; shift = last .1 }
+
+template-fields : {fields : List Field} → Six fields → says word listing (getD fields 0 blankField) ≡ true → is count defined (getD fields 1 blankField) ≡ true
+    → is count wildcard (getD fields 2 blankField) ≡ true → is count wildcard (getD fields 3 blankField) ≡ true → is offset formal (getD fields 4 blankField) ≡ true
+    → restFrom 5 fields ≡ true
+    → fields
+    ≡ given word listing
+    ∷ given count (getD fields 1 blankField .value)
+    ∷ undefined count wildcard
+    ∷ undefined count wildcard
+    ∷ undefined offset formal
+    ∷ blankField
+    ∷ []
+template-fields (six a b c d e f) named position process serial shift blank =
+    let behind = used-blank 3 b _ (used-blank 4 a _ blank .1) .1 in
+    let third = used-blank 2 c _ behind in
+    let fourth = used-blank 1 d _ (third .1) in
+    let fifth = used-blank 0 e _ (fourth .1) in
+    let first = field-says word listing a named in
+    let second = field-is count defined b position (b .value) refl in
+    let any = open-field count wildcard c process (λ x. omega arith) (third .0) in
+    let any′ = open-field count wildcard d serial (λ x. omega arith) (fourth .0) in
+    let unset = open-field offset formal e shift (λ x. omega arith) (fifth .0) in
+    sym (rest-blank 5 (a ∷ b ∷ c ∷ d ∷ e ∷ f ∷ []) blank) ∙ (λ p. first p ∷ second p ∷ any p ∷ any′ p ∷ unset p ∷ blankField ∷ [])
+
+pub list-template : (position : ℕ) → isListTemplate (listTemplate position) ≡ true
+unfolding isListTemplate
+list-template position = refl
+
+pub list-template-rule : ListTemplateRule
+unfolding isListTemplate
+list-template-rule template = (
+  λ h. let asks = template-parts template h in
+      record {
+        five = asks .counted;
+        first = field-says word listing (field template 0) (asks .named);
+        second = field-is count defined (field template 1) (asks .position) _ refl;
+        third = kind-state count wildcard (field template 2) (asks .process);
+        fourth = kind-state count wildcard (field template 3) (asks .serial);
+        fifth = kind-state offset formal (field template 4) (asks .shift);
+      },
+  λ t. rw (t .five, t .first, t .second, t .third .0, t .third .1, t .fourth .0, t .fourth .1, t .fifth .0, t .fifth .1),
+)
+
+pub list-template-made : ListTemplateMade
+unfolding restBlank
+list-template-made template rest six-places = (
+  λ h. let asks = template-parts template h in
+      let fields = template-fields (view (template .fields) six-places) (asks .named) (asks .position) (asks .process) (asks .serial) (asks .shift) (rw (asks .counted) at rest) in
+      λ i. record { count = asks .counted i; fields = fields i },
+  λ e. ap isListTemplate e ∙ list-template (positionOf template),
+)
+
+-- ---- what it matches
+
+module _ (template entry : Tuple) (asked : isListTemplate template ≡ true) where
+  wide : template .count ≤ length (template .fields)
+  wide = let asks = template-parts template asked in omega (arith, asks .counted, within-fields template 4 offset formal (omega arith) (asks .shift))
+
+  -- a list tuple of its position
+  pub list-match : isListTuple entry ≡ true → positionOf template ≡ positionOf entry → matches template entry ≡ true
+  list-match listed same =
+      let asks = template-parts template asked in
+      let gives = list-parts entry listed in
+      let long = within-fields entry 4 offset defined (omega arith) (gives .shift) in
+      matches-rule template entry wide (omega (arith, asks .counted)) .1 (gives .counted ∙ sym (asks .counted), λ i below. each i (omega (arith, asks .counted)))
+    where
+      fit : (kind state : ℕ) (i : ℕ) → is kind state (field template i) ≡ true → is kind defined (field entry i) ≡ true
+          → (state ≡ defined → field template i .value ≡ field entry i .value) → FieldMatch (field template i) (field entry i)
+      fit kind state i t e value =
+          let asks = kind-state kind state (field template i) t in
+          let gives = kind-state kind defined (field entry i) e in
+          record { kind = asks .0 ∙ sym (gives .0); value = λ d. value (sym (asks .1) ∙ d) }
+
+      each : (i : ℕ) → i < 5 → FieldMatch (field template i) (field entry i)
+      each zero h =
+          let asks = template-parts template asked in
+          let gives = list-parts entry listed in
+          fit word defined 0 (and-eq-true-iff _ _ .0 (asks .named) .0) (and-eq-true-iff _ _ .0 (gives .named) .0)
+          (λ d. said word listing (field template 0) (asks .named) ∙ sym (said word listing (field entry 0) (gives .named)))
+      each (suc zero) h = fit count defined 1 (template-parts template asked .position) (list-parts entry listed .position) (λ d. same)
+      each (suc (suc zero)) h = fit count wildcard 2 (template-parts template asked .process) (list-parts entry listed .process) (λ d. absurd (omega arith))
+      each (suc (suc (suc zero))) h = fit count wildcard 3 (template-parts template asked .serial) (list-parts entry listed .serial) (λ d. absurd (omega arith))
+      each (suc (suc (suc (suc zero)))) h = fit offset formal 4 (template-parts template asked .shift) (list-parts entry listed .shift) (λ d. absurd (omega arith))
+      each (suc (suc (suc (suc (suc i))))) h = absurd (omega arith)
+
+  -- and no tuple of another
+  pub match-list : isListTuple entry ≡ true → matches template entry ≡ true → positionOf template ≡ positionOf entry
+  match-list listed h =
+      let asks = template-parts template asked in
+      let gives = list-parts entry listed in
+      let long = within-fields entry 4 offset defined (omega arith) (gives .shift) in
+      matches-rule template entry wide (omega (arith, asks .counted)) .0 h .1 1 (omega (arith, asks .counted)) .value (kind-state count defined (field template 1) (asks .position) .1)
+
+-- ---- what is permitted
+
+same-position : (template entry : Tuple)
+    → (samePosition template entry ≡ true) ↔ ((positionOf template ≡ positionOf entry) × (1 ≤ positionOf entry) × (positionOf entry ≤ positions))
+same-position template entry = (
+  λ h. let parts = and-eq-true-iff (eqb (positionOf template) (positionOf entry)) _ .0 h in
+      let range = and-eq-true-iff (leb 1 (positionOf entry)) _ .0 (parts .1) in
+      (eqb-true _ _ (parts .0), leb-true 1 _ (range .0), leb-true _ positions (range .1)),
+  λ h. rw (eq-eqb (positionOf template) (positionOf entry) (h .0), le-leb 1 (positionOf entry) (h .1), le-leb (positionOf entry) positions (h .2)),
+)
+
+new-rule : (tuples : List Tuple) (entry : Tuple) → (isNew tuples entry ≡ true) ↔ (Listed tuples (processOf entry) (serialOf entry) → ⊥)
+unfolding isNew
+new-rule tuples entry =
+    let rule = listed-rule tuples (processOf entry) (serialOf entry) in (
+      λ h l. let test : not (isListed tuples (processOf entry) (serialOf entry)) ≡ true = h in false≢true (rw (rule .1 l) at test),
+      λ none. cases (isListed tuples (processOf entry) (serialOf entry)) (λ e. absurd (none (rule .0 e))) (λ e. rw e),
+    )
+
+shift-rule : (code : ℕ) → (isShift code ≡ true) ↔ (code ≡ bottom → ⊥)
+shift-rule code = (λ h. eqb-false _ _ (not-true _ h), λ some. rw (ne-eqb _ _ some))
+
+begins-rule : (position : ℕ) → 1 ≤ position → (begins position ≡ true) ↔ (position ≡ 1)
+unfolding begins
+begins-rule position first = (λ h. let few : position ≤ 1 = leb-true _ _ h in omega arith, λ one. le-leb position _ (omega arith))
+
+follows-rule : (tuples : List Tuple) (entry : Tuple) → 1 ≤ positionOf entry
+    → (follows tuples entry ≡ true) ↔ ((positionOf entry ≡ 1) ⊎ Filled tuples (positionOf entry - 1))
+unfolding follows
+follows-rule tuples entry first =
+    let one = begins-rule (positionOf entry) first in
+    let rule = filled-rule tuples (positionOf entry - 1) in (
+      λ h. cases (begins (positionOf entry)) (λ e. inl (one .0 e)) (λ e. inr (rule .0 (rw e at h))),
+      ⊎-elim (λ is. rw (one .1 is)) (λ f. rw (rule .1 f, or-true)),
+    )
+
+pub may-list-rule : (tuples : List Tuple) (call : Call) → (mayList tuples call ≡ true) ↔ (ListCall tuples call × (processOf (call .entry) ≡ call .process))
+unfolding mayList isListCall
+may-list-rule tuples call =
+    let entry = call .entry in
+    let position = same-position (call .template) entry in
+    let new = new-rule tuples entry in (
+      λ h.
+          let tests = four (isListCall call) (isOwn call) (isNew tuples entry) (follows tuples entry) h in
+          let shapes = four (isListTemplate (call .template)) (isListTuple entry) (samePosition (call .template) entry) (isShift (shiftCode entry)) (tests .0) in
+          let on = position .0 (shapes .2) in (
+            record {
+              template = shapes .0;
+              entry = shapes .1;
+              same = on .0;
+              first = on .1;
+              most = on .2;
+              some = shift-rule (shiftCode entry) .0 (shapes .3);
+              unlisted = new .0 (tests .2);
+              follows = follows-rule tuples entry (on .1) .0 (tests .3);
+            },
+            eqb-true _ _ (tests .1),
+          ),
+      λ p. let c = p .0 in
+          rw (
+            c .template,
+            c .entry,
+            position .1 (c .same, c .first, c .most),
+            shift-rule (shiftCode entry) .1 (c .some),
+            eq-eqb (processOf entry) (call .process) (p .1),
+            new .1 (c .unlisted),
+            follows-rule tuples entry (c .first) .1 (c .follows),
+          ),
+    )
+
+pub list-rule : ListRule
+unfolding shared
+list-rule config tuples call is-four =
+    let rule = may-list-rule tuples call in
+    rw (under-shared config tuples call is-four) (
+      λ h. cases (eqb (call .code) rdp)
+          (λ a. inl (eqb-true _ _ a))
+          (λ a. cases (eqb (call .code) cas)
+          (λ b. let passed = rule .0 (demanded (mayList tuples call) (refusal 7) Permit (rw (a, b) at h) .0) in inr (eqb-true _ _ b, passed .0, passed .1))
+          (λ b. let refused = rw (a, b) at h in let z : _≡_ {A = ℕ} 0 1 = cc in absurd (omega arith))),
+      ⊎-elim
+          (λ a. rw (eq-eqb (call .code) rdp a))
+          (λ p. rw (ne-eqb (call .code) rdp (λ e. omega (arith, p .0)), eq-eqb (call .code) cas (p .0), rule .1 (p .1, p .2))),
+    )
+
+pub list-denied : ListDenied
+list-denied config tuples call is-four forbidden =
+    let other : hasProposals config ≡ true → ⊥ = λ rests. omega (arith, proposals-deciding config rests) in
+    otherwise-rule config tuples call .1 (record { forbidden = forbidden; first = λ s. other (s .policy); borne = λ u. other (u .policy) })

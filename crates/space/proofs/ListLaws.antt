@@ -1,0 +1,136 @@
+-- The tuples of the shared list and what is listed: the laws in document 02's words, from the definitions of lists.
+use mathlib.Core.Path.{_≡_, refl, sym, ap, _∙_}
+use mathlib.Core.Logic.{_↔_, inl, inr}
+use mathlib.Core.Bool.{true, false≢true, or-true, and-eq-true-iff}
+use mathlib.Core.List.{List, [], _∷_, List·Memᴰ, List·Memᴰ·head, List·Memᴰ·tail, List·Memᴰ·not-nil, List·Memᴰ·cases-cons}
+use Prim.Native.Nat.{ℕ}
+use lib.ListN.{length, getD}
+use lib.Dec.{eqb}
+use borrow.Author.Tests.{eqb-true, eq-eqb}
+use borrow.Table.Steps.{cases}
+use Rattle.space.specs.declared.list.Wanted.{Wanted}
+use Rattle.space.specs.declared.list.Wanted.the-variants.{Position, Serial}
+use Rattle.space.specs.Laws.{ListTupleRule, ListTupleMade, FilledRule, ListedRule}
+use Rattle.space.specs.Lists.{isListTuple, listTuple, positionOf, serialOf, shiftCode, isWanted, lists, isThere, isFilled, isListed}
+use Rattle.space.specs.Shapes.{processOf}
+use Rattle.space.proofs.ShapeLaws.{four}
+use Rattle.tuple.specs.declared.field.Field.{Field}
+use Rattle.tuple.specs.declared.field.Tuple.{Tuple}
+use Rattle.tuple.specs.Faults.{isAbsent, tupleFault, restFrom, restBlank, isEntry}
+use Rattle.tuple.specs.Fields.{word, count, offset, defined, listing, blankField}
+use Rattle.tuple.specs.Shapes.{given, field, is, says}
+use Rattle.tuple.proofs.Blanks.{rest-blank}
+use Rattle.tuple.proofs.FieldLaws.{field-is, field-says, Six, view}
+use Rattle.tuple.proofs.FieldLaws.Six.{six}
+
+-- ---- a list tuple
+
+pub record Parts (tuple : Tuple) : Type 0 where
+  pub counted : tuple .count ≡ 5
+  pub named : says word listing (field tuple 0) ≡ true
+  pub position : is count defined (field tuple 1) ≡ true
+  pub process : is count defined (field tuple 2) ≡ true
+  pub serial : is count defined (field tuple 3) ≡ true
+  pub shift : is offset defined (field tuple 4) ≡ true
+
+pub list-parts : (tuple : Tuple) → isListTuple tuple ≡ true → Parts tuple
+unfolding isListTuple
+list-parts tuple h =
+    let last = and-eq-true-iff _ (is offset defined (field tuple 4)) .0 h in
+    let fourth = and-eq-true-iff _ (is count defined (field tuple 3)) .0 (last .0) in
+    let front = four (eqb (tuple .count) 5) (says word listing (field tuple 0)) (is count defined (field tuple 1)) (is count defined (field tuple 2)) (fourth .0) in
+    record { counted = eqb-true _ _ (front .0); named = front .1; position = front .2; process = front .3; serial = fourth .1; shift = last .1 }
+
+list-fields : {fields : List Field} → Six fields → says word listing (getD fields 0 blankField) ≡ true → is count defined (getD fields 1 blankField) ≡ true
+    → is count defined (getD fields 2 blankField) ≡ true → is count defined (getD fields 3 blankField) ≡ true → is offset defined (getD fields 4 blankField) ≡ true
+    → restFrom 5 fields ≡ true
+    → fields
+    ≡ given word listing
+    ∷ given count (getD fields 1 blankField .value)
+    ∷ given count (getD fields 2 blankField .value)
+    ∷ given count (getD fields 3 blankField .value)
+    ∷ given offset (getD fields 4 blankField .value)
+    ∷ blankField
+    ∷ []
+list-fields (six a b c d e f) named position process serial shift blank =
+    let first = field-says word listing a named in
+    let second = field-is count defined b position (b .value) refl in
+    let third = field-is count defined c process (c .value) refl in
+    let fourth = field-is count defined d serial (d .value) refl in
+    let fifth = field-is offset defined e shift (e .value) refl in
+    sym (rest-blank 5 (a ∷ b ∷ c ∷ d ∷ e ∷ f ∷ []) blank) ∙ (λ p. first p ∷ second p ∷ third p ∷ fourth p ∷ fifth p ∷ blankField ∷ [])
+
+-- what is made of the word 3, a position, a process, a serial and a shift is a list tuple
+pub list-tuple : (position process serial code : ℕ) → isListTuple (listTuple position process serial code) ≡ true
+unfolding isListTuple
+list-tuple position process serial code = refl
+
+pub list-tuple-rule : ListTupleRule
+unfolding isListTuple
+list-tuple-rule tuple = (
+  λ h. let parts = list-parts tuple h in
+      record {
+        five = parts .counted;
+        first = field-says word listing (field tuple 0) (parts .named);
+        second = field-is count defined (field tuple 1) (parts .position) _ refl;
+        third = field-is count defined (field tuple 2) (parts .process) _ refl;
+        fourth = field-is count defined (field tuple 3) (parts .serial) _ refl;
+        fifth = field-is offset defined (field tuple 4) (parts .shift) _ refl;
+      },
+  λ t. rw (t .five, t .first, t .second, t .third, t .fourth, t .fifth),
+)
+
+pub list-tuple-made : ListTupleMade
+unfolding isEntry restBlank
+list-tuple-made tuple entry six-places = (
+  λ h. let parts = list-parts tuple h in
+      let rest = and-eq-true-iff (isAbsent (tupleFault true tuple)) _ .0 entry .1 in
+      let fields = list-fields (view (tuple .fields) six-places) (parts .named) (parts .position) (parts .process) (parts .serial) (parts .shift) (rw (parts .counted) at rest) in
+      λ i. record { count = parts .counted i; fields = fields i },
+  λ e. ap isListTuple e ∙ list-tuple (positionOf tuple) (processOf tuple) (serialOf tuple) (shiftCode tuple),
+)
+
+-- ---- what is listed
+
+module _ (wanted : Wanted) where
+  -- such a tuple stands in the list
+  record Standing (tuples : List Tuple) : Type 0 where
+    tuple : Tuple
+    stands : List·Memᴰ tuple tuples
+    shape : isListTuple tuple ≡ true
+    sought : isWanted wanted tuple ≡ true
+
+  there-standing : (tuples : List Tuple) → isThere wanted tuples ≡ true → Standing tuples
+  unfolding isThere lists
+  there-standing [] h = absurd (false≢true h)
+  there-standing (tuple ∷ tuples) h =
+      cases (lists wanted tuple)
+      (λ e. let parts = and-eq-true-iff (isListTuple tuple) _ .0 e in
+      record { tuple = tuple; stands = List·Memᴰ·head refl; shape = parts .0; sought = parts .1 })
+      (λ e. let rest = there-standing tuples (rw e at h) in
+      record { tuple = rest .tuple; stands = List·Memᴰ·tail (rest .stands); shape = rest .shape; sought = rest .sought })
+
+  standing-there : (tuples : List Tuple) → Standing tuples → isThere wanted tuples ≡ true
+  unfolding isThere lists
+  standing-there [] s = absurd (List·Memᴰ·not-nil (s .stands))
+  standing-there (tuple ∷ tuples) s =
+      elim (List·Memᴰ·cases-cons (s .stands)) [
+        | inl e ↦ rw (← e, s .shape, s .sought)
+        | inr m ↦ rw (standing-there tuples (record { tuple = s .tuple; stands = m; shape = s .shape; sought = s .sought }), or-true)
+      ]
+
+pub filled-rule : FilledRule
+unfolding isFilled
+filled-rule tuples position = (
+  λ h. let s = there-standing (Position position) tuples h in record { tuple = s .tuple; stands = s .stands; shape = s .shape; at = eqb-true _ _ (s .sought) },
+  λ f. standing-there (Position position) tuples (record { tuple = f .tuple; stands = f .stands; shape = f .shape; sought = eq-eqb _ _ (f .at) }),
+)
+
+pub listed-rule : ListedRule
+unfolding isListed
+listed-rule tuples process serial = (
+  λ h. let s = there-standing (Serial process serial) tuples h in
+      let same = and-eq-true-iff (eqb (processOf (s .tuple)) process) _ .0 (s .sought) in
+      record { tuple = s .tuple; stands = s .stands; shape = s .shape; by = eqb-true _ _ (same .0); with-serial = eqb-true _ _ (same .1) },
+  λ l. standing-there (Serial process serial) tuples (record { tuple = l .tuple; stands = l .stands; shape = l .shape; sought = rw (eq-eqb _ _ (l .by), eq-eqb _ _ (l .with-serial)) refl }),
+)

@@ -1,0 +1,79 @@
+-- Document 02, 2.6: the list of shifts that all processes share, as its tuples stand in a space: their shape and parts, and what is listed.
+use mathlib.Core.Path.{_≡_}
+use Prim.Native.Nat.{ℕ}
+use mathlib.Core.Bool.{Bool, true, false, _&&_, _||_}
+use mathlib.Core.List.{List, [], _∷_, List·Memᴰ}
+use lib.Dec.{eqb}
+use Rattle.space.specs.declared.list.Wanted.{Wanted}
+use Rattle.space.specs.declared.list.Wanted.the-variants.{Position, Serial}
+use Rattle.space.specs.Shapes.{processOf}
+use Rattle.tuple.specs.declared.field.Tuple.{Tuple}
+use Rattle.tuple.specs.Fields.{word, count, offset, defined, listing, blankField}
+use Rattle.tuple.specs.Shapes.{given, field, is, says}
+
+-- ---- a list tuple
+
+-- (word 3, count position, count process, count serial, offset shift)
+unfoldable pub isListTuple : Tuple → Bool
+isListTuple tuple =
+    eqb (tuple .count) 5
+    && says word listing (field tuple 0)
+    && is count defined (field tuple 1)
+    && is count defined (field tuple 2)
+    && is count defined (field tuple 3)
+    && is offset defined (field tuple 4)
+
+-- its position, its serial, and the code of its shift; its process stands where a proposal's does (`processOf`)
+abbrev pub positionOf : Tuple → ℕ
+positionOf tuple = field tuple 1 .value
+
+abbrev pub serialOf : Tuple → ℕ
+serialOf tuple = field tuple 3 .value
+
+abbrev pub shiftCode : Tuple → ℕ
+shiftCode tuple = field tuple 4 .value
+
+-- the one of a position, a process, a serial and the code of a shift
+abbrev pub listTuple : ℕ → ℕ → ℕ → ℕ → Tuple
+listTuple position process serial code =
+    record { count = 5; fields = given word listing ∷ given count position ∷ given count process ∷ given count serial ∷ given offset code ∷ blankField ∷ [] }
+
+-- ---- what is listed
+
+-- one of the list tuples that are looked for: of this position, or of this process and serial
+abbrev pub isWanted : Wanted → Tuple → Bool
+isWanted (Position position) tuple = eqb (positionOf tuple) position
+isWanted (Serial process serial) tuple = eqb (processOf tuple) process && eqb (serialOf tuple) serial
+
+unfoldable pub lists : Wanted → Tuple → Bool
+lists wanted tuple = isListTuple tuple && isWanted wanted tuple
+
+-- such a tuple stands in the space
+unfoldable pub isThere : Wanted → List Tuple → Bool
+isThere wanted [] = false
+isThere wanted (tuple ∷ tuples) = lists wanted tuple || isThere wanted tuples
+
+-- a list tuple of this position stands there
+unfoldable pub isFilled : List Tuple → ℕ → Bool
+isFilled tuples position = isThere (Position position) tuples
+
+-- this process and serial are listed, at some position, with some shift
+unfoldable pub isListed : List Tuple → ℕ → ℕ → Bool
+isListed tuples process serial = isThere (Serial process serial) tuples
+
+-- ---- in document 02's words
+
+-- (word 3, count position, some process, some serial, some shift or bottom) stands among the tuples
+pub record Filled (tuples : List Tuple) (position : ℕ) : Type 0 where
+  pub tuple : Tuple
+  pub stands : List·Memᴰ tuple tuples
+  pub shape : isListTuple tuple ≡ true
+  pub at : positionOf tuple ≡ position
+
+-- (word 3, some position, count process, count serial, some shift or bottom) stands among the tuples
+pub record Listed (tuples : List Tuple) (process serial : ℕ) : Type 0 where
+  pub tuple : Tuple
+  pub stands : List·Memᴰ tuple tuples
+  pub shape : isListTuple tuple ≡ true
+  pub by : processOf tuple ≡ process
+  pub with-serial : serialOf tuple ≡ serial

@@ -1,0 +1,454 @@
+//! The list of policy 4 (02, 2.6): why a call is denied, worked out apart from the plain version's policy; seats that race for its
+//! positions, among strays; what holds of every run; and lists that no run makes.
+
+use std::collections::{BTreeMap, BTreeSet};
+
+use reference::board::MOST_TUPLES;
+use reference::list::LAST_POSITION;
+use reference::{Answer, AnswerKind, Board, Call, Config, Field, Kind, Offset, Refusal, Tuple};
+
+use super::{good_field, good_tuple, spoil, Dice, PARTS, SEATS};
+
+/// Why a call is denied.
+#[derive(Clone, Copy, Debug, PartialEq, Eq, PartialOrd, Ord)]
+pub enum Cause {
+    Out,
+    Inp,
+    /// A cas of another entry.
+    Entry,
+    /// A cas with one thing wrong: another template; the template of another position; position 0; one above 112; another's number;
+    /// the mark; the position before it empty.
+    Template,
+    TwoPositions,
+    PositionZero,
+    PositionAbove,
+    Anothers,
+    Mark,
+    NoneBefore,
+    /// Or its seat and serial are listed: as the same tuple; at its position with another shift; elsewhere.
+    SameAgain,
+    ShiftAgain,
+    ElsewhereAgain,
+    /// A cas with several of these wrong.
+    Several,
+}
+
+use Cause::*;
+
+impl Cause {
+    pub const ALL: [Cause; 14] = [
+        Out,
+        Inp,
+        Entry,
+        Template,
+        TwoPositions,
+        PositionZero,
+        PositionAbove,
+        Anothers,
+        Mark,
+        NoneBefore,
+        SameAgain,
+        ShiftAgain,
+        ElsewhereAgain,
+        Several,
+    ];
+
+    /// Why policy 4 denies this call, if it does. The board is well formed, the call sound and of a seat from 1 to n.
+    fn of(board: &Board, call: &Call) -> Option<Cause> {
+        match call.code {
+            1 => Some(Out),
+            2 => None,
+            3 => Some(Inp),
+            _ => Cause::of_cas(board, call),
+        }
+    }
+
+    fn of_cas(board: &Board, call: &Call) -> Option<Cause> {
+        let [_, position, seat, serial, shift, _] = call.entry.fields.map(|field| field.value);
+        if call.entry != Tuple::listed(position, seat, serial, shift) {
+            return Some(Entry);
+        }
+        let asked = call.template.fields[1].value;
+        let shaped = call.template == Tuple::listed_template(asked);
+        let again = again(board, &call.entry);
+        let faults = [
+            (!shaped, Template),
+            (shaped && asked != position, TwoPositions),
+            (position == 0, PositionZero),
+            (position > 112, PositionAbove),
+            (seat != call.process.into(), Anothers),
+            (shift == 0, Mark),
+            (position > 1 && !stands(board, [Some(position - 1), None, None]), NoneBefore),
+            (again.is_some(), again.unwrap_or(Several)),
+        ];
+        let mut wrong = faults.iter().filter(|(is_wrong, _)| *is_wrong).map(|(_, cause)| *cause);
+        match (wrong.next(), wrong.next()) {
+            (Some(_), Some(_)) => Some(Several),
+            (one, _) => one,
+        }
+    }
+}
+
+/// Where the seat and serial of this list tuple are listed already.
+fn again(board: &Board, entry: &Tuple) -> Option<Cause> {
+    let [_, position, seat, serial, ..] = entry.fields.map(|field| field.value);
+    if board.held().contains(entry) {
+        Some(SameAgain)
+    } else if stands(board, [Some(position), Some(seat), Some(serial)]) {
+        Some(ShiftAgain)
+    } else if stands(board, [None, Some(seat), Some(serial)]) {
+        Some(ElsewhereAgain)
+    } else {
+        None
+    }
+}
+
+/// Whether a list tuple of this position, seat and serial, where they are given, is on the board.
+fn stands(board: &Board, counts: [Option<u64>; 3]) -> bool {
+    let [position, seat, serial] =
+        counts.map(|count| count.map_or(Field::any(Kind::Count), |value| Field::given(Kind::Count, value)));
+    let sought = Tuple::of(&[Field::given(Kind::Word, 3), position, seat, serial, Field::any(Kind::Offset)]);
+    board.held().iter().any(|held| sought.matches(held))
+}
+
+/// What came of calls on boards under policy 4, and why they were denied.
+#[derive(Default)]
+pub struct Lists {
+    pub inserted: usize,
+    pub held: usize,
+    pub found: usize,
+    pub none: usize,
+    pub denied: usize,
+    pub full: usize,
+    causes: BTreeMap<Cause, usize>,
+}
+
+impl Lists {
+    /// Holds the answer to a call on this board against its cause, and counts it.
+    pub fn note(&mut self, before: &Board, call: &Call, answer: &Answer) {
+        let standing = before.held().iter().find(|held| call.template.matches(held));
+        let place = before.count < MOST_TUPLES;
+        let (right, came) = match answer.kind {
+            AnswerKind::Inserted => (standing.is_none() && place, &mut self.inserted),
+            AnswerKind::Held => (standing == Some(&answer.tuple), &mut self.held),
+            AnswerKind::Found => (standing == Some(&answer.tuple), &mut self.found),
+            AnswerKind::None => (standing.is_none(), &mut self.none),
+            AnswerKind::Refused(Refusal::Denied) => (true, &mut self.denied),
+            AnswerKind::Refused(Refusal::Full) => (standing.is_none() && !place, &mut self.full),
+            // What is refused before the policy is asked is not judged.
+            AnswerKind::Refused(refusal) => return assert!(refusal.number() < 7, "{refusal} to {call:?}"),
+            AnswerKind::Done => panic!("{call:?} on {before:?}"),
+        };
+        assert!(right, "{answer:?} to {call:?} on {before:?}");
+        *came += 1;
+        let (cause, denied) = (Cause::of(before, call), Answer::from(Refusal::Denied));
+        assert_eq!(cause.is_some(), *answer == denied, "{cause:?}: {call:?} on {before:?}");
+        if let Some(cause) = cause {
+            *self.causes.entry(cause).or_default() += 1;
+        }
+    }
+
+    /// Prints what came.
+    pub fn print(&self) {
+        let Lists { inserted, held, found, none, denied, full, causes } = self;
+        if *denied == 0 {
+            return;
+        }
+        println!(
+            "         under policy 4 inserted {inserted}, held {held}, found {found}, none {none}, refused 7 {denied}, \
+             refused 8 {full}"
+        );
+        let causes: Vec<String> = causes.iter().map(|(cause, often)| format!("{cause:?} {often}")).collect();
+        println!("         refused 7 under policy 4: {}", causes.join(", "));
+    }
+
+    /// Each of these causes came so often at least.
+    pub fn assert_each(&self, causes: &[Cause], least: usize) {
+        for cause in causes {
+            let often = self.causes.get(cause).copied().unwrap_or(0);
+            assert!(often >= least, "{cause:?} came {often} times under policy 4");
+        }
+    }
+}
+
+/// A shift other than the mark: near 0, or far off.
+fn any_shift(dice: &mut Dice) -> u64 {
+    dice.pick(&[1, 2, 3, 0x50, 0x51, 16_383, 16_384, 200_000, 200_001])
+}
+
+/// A seat that tries its shift at the first position that it has not read, until it is listed, and adds up what it reads.
+struct Racer {
+    seat: u32,
+    serial: u64,
+    shift: u64,
+    /// The sum up to each position that it has read, from the first one on.
+    sums: Vec<i64>,
+}
+
+impl Racer {
+    fn new(dice: &mut Dice, seat: u32) -> Racer {
+        let serial = dice.pick(&[0, 1, 100, 16_300, (1 << 28) - 9, Kind::Count.last() - LAST_POSITION]);
+        Racer { seat, serial, shift: any_shift(dice), sums: Vec::new() }
+    }
+
+    /// Now and then it only looks whether the position is taken.
+    fn call(&self, dice: &mut Dice) -> Call {
+        let position = self.sums.len() as u64 + 1;
+        let template = Tuple::listed_template(position);
+        if dice.one_in(4) {
+            return Call::rdp(self.seat, template);
+        }
+        Call::cas(self.seat, template, Tuple::listed(position, self.seat.into(), self.serial, self.shift))
+    }
+
+    /// Nothing but the end of the list stops it.
+    fn hear(&mut self, dice: &mut Dice, call: &Call, answer: &Answer) {
+        let Some(read) = read_in(call, answer) else {
+            let ended = self.sums.len() as u64 == LAST_POSITION && *answer == Answer::from(Refusal::Denied);
+            return assert!(ended || *answer == Answer::NONE, "{answer:?} to {call:?}");
+        };
+        if answer.kind == AnswerKind::Inserted {
+            self.serial += 1;
+            self.shift = any_shift(dice);
+        }
+        let (position, _, _, shift) = read.as_listed().expect("a list tuple");
+        assert_eq!(position, self.sums.len() as u64 + 1, "{call:?}");
+        let sum = self.sums.last().copied().unwrap_or(0);
+        self.sums.push(sum + hundredths(shift));
+    }
+}
+
+/// The tuple that an answer gives: what was inserted, held or found.
+fn read_in(call: &Call, answer: &Answer) -> Option<Tuple> {
+    match answer.kind {
+        AnswerKind::Inserted => Some(call.entry),
+        AnswerKind::Held | AnswerKind::Found => Some(answer.tuple),
+        _ => None,
+    }
+}
+
+/// The hundredths of a shift that is not the mark.
+fn hundredths(shift: u64) -> i64 {
+    match Offset::from_travelling(shift) {
+        Some(Offset::Number(z)) => z,
+        other => panic!("a shift that is {other:?}"),
+    }
+}
+
+/// A run from a fresh board under policy 4: some seats race, the others call anything.
+pub struct Race {
+    n: u64,
+    racers: BTreeMap<u32, Racer>,
+    /// What was read at each position, by whomever.
+    read: BTreeMap<u64, Tuple>,
+    /// How often a position was read again.
+    pub read_again: usize,
+}
+
+impl Race {
+    pub fn new(dice: &mut Dice, config: &Config) -> Race {
+        let share = dice.pick(&[1, 3, 4]);
+        let mut racers = BTreeMap::new();
+        for seat in 1..=config.n as u32 {
+            if seat == 1 || dice.below(4) < share {
+                racers.insert(seat, Racer::new(dice, seat));
+            }
+        }
+        Race { n: config.n, racers, read: BTreeMap::new(), read_again: 0 }
+    }
+
+    /// How many calls a run has: a few, or enough to fill the list.
+    pub fn calls(&self, dice: &mut Dice) -> u64 {
+        ((self.n + 2) * dice.pick(&[3, 12, 40, 170])).min(2_400)
+    }
+
+    /// The next call: a racer's own, or a stray's on this board.
+    pub fn call(&self, dice: &mut Dice, board: &Board) -> Call {
+        let process = dice.below(self.n + 2) as u32;
+        match self.racers.get(&process) {
+            Some(racer) => racer.call(dice),
+            // A stray can't call under another's number.
+            None => Call { process, ..near_call(dice, board, process) },
+        }
+    }
+
+    /// Whatever is read at a position is the same, and the racer whose call it was adds it up.
+    pub fn hear(&mut self, dice: &mut Dice, call: &Call, answer: &Answer) {
+        if let Some(read) = read_in(call, answer) {
+            let (position, ..) = read.as_listed().expect("a run's board holds list tuples alone");
+            if let Some(before) = self.read.insert(position, read) {
+                assert_eq!(before, read, "two readings of position {position}");
+                self.read_again += 1;
+            }
+        }
+        if let Some(racer) = self.racers.get_mut(&call.process) {
+            racer.hear(dice, call, answer);
+        }
+    }
+
+    /// At the end of the run: the list has no gap, no mark and nothing twice, and whoever has read positions 1 to m holds the same sum.
+    /// Gives how many sums were held against another's.
+    pub fn check(&self, board: &Board) -> usize {
+        assert_eq!(board.check(), Ok(()));
+        let (mut listed, mut sums, mut sum) = (BTreeSet::new(), Vec::new(), 0);
+        for (place, tuple) in (1..).zip(board.held()) {
+            let (position, seat, serial, shift) = tuple.as_listed().expect("a list tuple");
+            assert_eq!(position, place, "{board:?}");
+            assert!((1..=self.n).contains(&seat) && listed.insert((seat, serial)), "{board:?}");
+            assert_eq!(self.read.get(&position), Some(tuple), "{board:?}");
+            sum += hundredths(shift);
+            sums.push(sum);
+        }
+        assert!(sums.len() as u64 <= 112);
+        let mut equal = 0;
+        for (seat, racer) in &self.racers {
+            assert_eq!(racer.sums, sums[..racer.sums.len()], "seat {seat}");
+            for other in self.racers.range(..seat).map(|(_, other)| other) {
+                let both = racer.sums.len().min(other.sums.len());
+                assert_eq!(racer.sums[..both], other.sums[..both], "seats {} and {seat}", other.seat);
+                equal += both;
+            }
+        }
+        equal
+    }
+}
+
+/// A call at this list: right, with one thing wrong, or seldom with several.
+pub fn near_call(dice: &mut Dice, board: &Board, process: u32) -> Call {
+    let entry = near_entry(dice, board, process);
+    let position = entry.fields[1].value;
+    let template = match dice.below(20) {
+        0 => Tuple::listed_template(dice.pick(&[position + 1, position.max(1) - 1])),
+        1 | 2 => near_template(dice, &entry),
+        _ => Tuple::listed_template(position),
+    };
+    let mut call = match dice.below(16) {
+        0 => Call::out(process, entry),
+        1 => Call::inp(process, template),
+        2 => Call::rdp(process, near_template(dice, &entry)),
+        3 if dice.one_in(2) => Call::rdp(process, good_tuple(dice, false)),
+        3 => Call::rdp(process, some_template(dice, board)),
+        _ => Call::cas(process, template, entry),
+    };
+    if dice.one_in(16) {
+        let part = dice.below(PARTS);
+        spoil(dice, &mut call, part);
+    }
+    call
+}
+
+/// What such a call lists: behind the newest tuple, behind any, or at the first position; at times what is listed already, under another's
+/// number, at a position that is none, or no list tuple.
+fn near_entry(dice: &mut Dice, board: &Board, process: u32) -> Tuple {
+    let list: Vec<_> = board.held().iter().filter_map(looks_listed).collect();
+    let own: Vec<_> = list.iter().filter(|(_, seat, _, _)| *seat == u64::from(process)).copied().collect();
+    let before = match dice.below(8) {
+        _ if list.is_empty() => 0,
+        0 => 0,
+        1..=4 => list[list.len() - 1].0,
+        _ => dice.pick(&list).0,
+    };
+    let (mut position, mut seat, mut shift) = (before + 1, u64::from(process), any_shift(dice));
+    let mut serial = if dice.one_in(8) { dice.below(4) } else { dice.below(1 << 32) };
+    match dice.below(20) {
+        0 => position = dice.pick(&[0, 0, 1, 111, 112, 113, 114, 255, Kind::Count.last()]),
+        1 => position += 1 + dice.below(2),
+        2 if dice.one_in(4) => seat = dice.pick(&SEATS).into(),
+        2 => seat = dice.below(board.config.n.min(16) + 2),
+        3 => shift = Offset::MARK,
+        4 | 5 if !own.is_empty() => (position, seat, serial, shift) = dice.pick(&own),
+        6 if !own.is_empty() => (position, seat, serial, _) = dice.pick(&own),
+        7 if !own.is_empty() => serial = dice.pick(&own).2,
+        _ => {}
+    }
+    let mut entry = Tuple::listed(position, seat, serial, shift);
+    match dice.below(20) {
+        0 => entry.fields[dice.below(5) as usize] = good_field(dice, true),
+        1 if dice.one_in(2) => entry = good_tuple(dice, true),
+        1 => entry = Tuple::of(&entry.fields[..4]),
+        _ => {}
+    }
+    entry
+}
+
+/// Position, seat, serial and shift of a list tuple, and of what looks like one, each within its kind's range.
+fn looks_listed(tuple: &Tuple) -> Option<(u64, u64, u64, u64)> {
+    let [_, position, seat, serial, shift, _] = tuple.fields;
+    let counts = [position, seat, serial];
+    let [position, seat, serial] = counts.map(|field| field.value.min(Kind::Count.last()));
+    let shift = shift.value.clamp(1, Offset::LAST);
+    counts.iter().all(|field| field.kind == Kind::Count as u8).then_some((position, seat, serial, shift))
+}
+
+/// The template of a list tuple but for one field, or for how many it has.
+fn near_template(dice: &mut Dice, entry: &Tuple) -> Tuple {
+    let right = Tuple::listed_template(entry.fields[1].value);
+    let (mut fields, place) = (right.fields, dice.below(5) as usize);
+    match dice.below(6) {
+        0 => return Tuple::of(&fields[..4]),
+        1 => return Tuple::of(&[&fields[..5], &[good_field(dice, false)]].concat()),
+        2 => fields[place] = entry.fields[place],
+        3 => fields[place] = good_field(dice, false),
+        _ => fields[place] = Field { state: 1 + dice.below(2) as u8, value: 0, ..fields[place] },
+    }
+    Tuple::of(&fields[..5])
+}
+
+/// A tuple of the board as a template, any of its fields given, any or open.
+fn some_template(dice: &mut Dice, board: &Board) -> Tuple {
+    let mut template =
+        if board.held().is_empty() { good_tuple(dice, false) } else { dice.pick(board.held()) };
+    for field in template.fields.iter_mut().take(template.count) {
+        if dice.one_in(2) {
+            *field = Field { state: 1 + dice.below(2) as u8, value: 0, ..*field };
+        }
+    }
+    template
+}
+
+/// The tuple at this place, from 0, of a list: as a run makes it, and each part of it once in so many times as no run does.
+pub fn odd_listed(dice: &mut Dice, config: &Config, place: u64, often: u64) -> Tuple {
+    let n = config.n.clamp(1, 15);
+    let position = match dice.below(3 * often) {
+        0 => dice.pick(&[0, 1, place, place + 2, place + 3, 111, 112, 113, Kind::Count.last()]),
+        1 => 1 + dice.below(place + 1),
+        _ => place + 1,
+    };
+    let seat = if dice.one_in(2 * often) { dice.pick(&[0, n + 1, 15, 16]) } else { 1 + dice.below(n) };
+    let serial = dice.below(often * often / 4);
+    let shift = if dice.one_in(2 * often) { Offset::MARK } else { any_shift(dice) };
+    let mut tuple = Tuple::listed(position, seat, serial, shift);
+    match dice.below(8 * often) {
+        // What looks like a list tuple, and what doesn't.
+        0 => tuple.fields[0].value = dice.pick(&[1, 2, 4]),
+        1 => tuple = Tuple::of(&tuple.fields[..4]),
+        2 => tuple = Tuple::of(&[&tuple.fields[..5], &[good_field(dice, true)]].concat()),
+        3 => tuple.fields[4] = Field::given(Kind::Count, shift),
+        4 => tuple.fields[dice.below(5) as usize] = good_field(dice, true),
+        5 => tuple = Tuple::proposal(place, seat, shift),
+        6 => tuple = good_tuple(dice, true),
+        _ => {}
+    }
+    tuple
+}
+
+/// A list handed in: mostly one that no run makes, at times on a full board.
+pub fn odd_list(dice: &mut Dice, config: &Config) -> Vec<Tuple> {
+    let often = dice.pick(&[2, 8, 40, 400]);
+    let held = match dice.below(6) {
+        0 => 108 + dice.below(21),
+        1 => dice.below(129),
+        _ => dice.below(12),
+    };
+    let mut tuples: Vec<Tuple> = (0..held).map(|place| odd_listed(dice, config, place, often)).collect();
+    match dice.below(6) {
+        // Gaps, and older tuples among newer ones.
+        0 => tuples.retain(|_| !dice.one_in(4)),
+        1 if held > 1 => tuples.swap(dice.below(held) as usize, dice.below(held) as usize),
+        _ => {}
+    }
+    if dice.one_in(5) {
+        tuples.resize_with(MOST_TUPLES, || good_tuple(dice, true));
+    }
+    tuples
+}

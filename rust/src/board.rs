@@ -1,11 +1,11 @@
-//! The board: set-up, well-formedness, the four calls (01, "Calls"; 02, 2.1
-//! and 2.6, for the set-ups of policies 3 and 4).
+//! The board: set-up, well-formedness, the four calls (01, "Calls"; 02, 2.1, 2.6
+//! and 2.7, for the set-ups of policies 3 to 5).
 
 use std::ops::RangeInclusive;
 
 use crate::fields::{Tuple, MOST_SEATS};
 use crate::numbers::Offset;
-use crate::policy::{self, BARE, DEFAULT, LIST, STRONG};
+use crate::policy::{self, BARE, DEFAULT, LIST, STRONG, WAIT_FREE};
 use crate::records::{Call, Code};
 use crate::refusal::Refusal;
 
@@ -30,12 +30,12 @@ pub struct Config {
 
 impl Config {
     /// Refused 1 unless n is 1 to 15, and under policy 3 k is 2 to 8 and n at
-    /// least (k + 1)t + 1, under the policies 0 to 2 and 4 k is 0 and n at least
-    /// 3t + 1.
+    /// least (k + 1)t + 1, under the policies 0 to 2, 4 and 5 k is 0 and n at
+    /// least 3t + 1.
     pub fn check(&self) -> Result<(), Refusal> {
         let times = match self.policy {
             STRONG if CHOICES.contains(&self.k) => self.k + 1,
-            BARE..=DEFAULT | LIST if self.k == 0 => 3,
+            BARE..=DEFAULT | LIST | WAIT_FREE if self.k == 0 => 3,
             _ => return Err(Refusal::Unsound),
         };
         // n >= times * t + 1 without a sum or product that wraps: t <= (n - 1) / times.
@@ -238,20 +238,20 @@ mod tests {
     #[test]
     fn set_ups() {
         for (n, t) in [(4, 1), (1, 0), (15, 4), (15, 0), (7, 2), (6, 1)] {
-            for policy in [0, 1, 2, 4] {
+            for policy in [0, 1, 2, 4, 5] {
                 assert!(Board::fresh(config(n, t, policy)).is_ok());
                 for k in [1, 2, 3, 8, u64::MAX] {
                     assert_eq!(Board::fresh(Config { k, ..config(n, t, policy) }), Err(Unsound));
                 }
             }
-            for (policy, k) in [(3, 0), (5, 0), (5, 2), (u64::MAX, 0), (u64::MAX, 2)] {
+            for (policy, k) in [(3, 0), (6, 0), (6, 2), (u64::MAX, 0), (u64::MAX, 2)] {
                 assert_eq!(Board::fresh(Config { k, ..config(n, t, policy) }), Err(Unsound));
             }
         }
         // 3t + 1 wraps to small numbers for the last few.
         let third = u64::MAX / 3;
         let wrapping = [third, third + 1, u64::MAX, 1 << 63];
-        for policy in [0, 4] {
+        for policy in [0, 4, 5] {
             for (n, t) in [(0, 0), (16, 0), (16, 5), (3, 1), (15, 5), (u64::MAX, 0)] {
                 assert_eq!(config(n, t, policy).check(), Err(Unsound));
             }
@@ -343,8 +343,9 @@ mod tests {
     #[test]
     fn refusals_in_order() {
         let good = Call::out(1, number(1));
-        let list = config(4, 1, 4);
-        for config in [config(4, 1, 0), config(4, 1, 1), config(4, 1, 2), strong(4, 1, 2), list] {
+        let lists = [config(4, 1, 4), config(4, 1, 5)];
+        let others = [config(4, 1, 0), config(4, 1, 1), config(4, 1, 2), strong(4, 1, 2)];
+        for config in others.into_iter().chain(lists) {
             let mut board = Board::fresh(config).unwrap();
             for process in [0, 5, u32::MAX] {
                 assert_eq!(obey(&mut board, Call { process, ..good }), Err(Seat));
@@ -355,13 +356,13 @@ mod tests {
             board.config.n = 3;
             assert_eq!(obey(&mut board, unused), Err(Unsound), "1 before 5");
         }
-        for config in [config(4, 1, 2), strong(4, 1, 2), list] {
+        for config in others[2..].iter().copied().chain(lists) {
             assert_eq!(obey(&mut Board::fresh(config).unwrap(), good), Err(Denied));
         }
         let mut board = bare();
         board.count = MOST_TUPLES;
         board.tuples = [number(1); MOST_TUPLES];
-        for policy in [1, 4] {
+        for policy in [1, 4, 5] {
             board.config.policy = policy;
             assert_eq!(obey(&mut board, good), Err(Denied), "7 before 8");
         }
@@ -405,7 +406,7 @@ mod tests {
         board.tuples[0] = Tuple::decision(4_294_967_295, 0, Kind::Seats.last());
         board.tuples[1] = number(9);
         assert_eq!(board.check(), Ok(()));
-        let spoilt: [fn(&mut Board); 13] = [
+        let spoilt: [fn(&mut Board); 14] = [
             |board| board.count = 1,
             |board| board.count = 3,
             |board| board.count = MOST_TUPLES + 1,
@@ -415,8 +416,9 @@ mod tests {
             |board| board.tuples[1].fields[5].value = 1,
             |board| board.tuples[MOST_TUPLES - 1].fields[5].value = 1,
             |board| board.config.policy = 3,
-            |board| board.config.policy = 5,
+            |board| board.config.policy = 6,
             |board| (board.config.policy, board.config.k) = (4, 2),
+            |board| (board.config.policy, board.config.k) = (5, 2),
             |board| board.config.k = 1,
             |board| board.config.k = 2,
         ];

@@ -1,9 +1,9 @@
-//! A board written back as a script (02, 2.4 and 2.6).
+//! A board written back as a script (02, 2.4, 2.6 and 2.7).
 
 use crate::board::{AnswerKind, Board, Config, MOST_TUPLES};
 use crate::fields::{Field, Kind, Tuple, DECISION, MOST_FIELDS};
 use crate::numbers::{write_number, LONGEST_NUMBER};
-use crate::policy::{BARE, LIST, STRONG, WEAK};
+use crate::policy::{BARE, LIST, STRONG, WAIT_FREE, WEAK};
 use crate::records::{record_of, Call};
 use crate::refusal::Refusal;
 
@@ -20,14 +20,18 @@ pub fn dump_into(board: &Board, buffer: &mut [u8]) -> Result<usize, Refusal> {
     Ok(script.len())
 }
 
-/// A script whose run ends in this board; refused 1, then 14 if there is none.
+/// A script whose run ends in this board; refused 1, then 15 under policy 5,
+/// then 14 if there is none.
 ///
-/// Under policy 0 there always is one. Under the others nothing is taken off,
-/// so a run that ends in this board appends its tuples one by one, oldest
+/// Under policy 0 there always is one. Under policies 1 to 4 nothing is taken
+/// off, so a run that ends in this board appends its tuples one by one, oldest
 /// first, and the only calls that could are those of `call_of`. So it is
 /// enough to see whether these, in a run of their own, append every tuple.
 pub fn script_of(board: &Board) -> Result<Vec<u8>, Refusal> {
     board.check()?;
+    if board.config.policy == WAIT_FREE {
+        return Err(Refusal::Unwritten);
+    }
     let mut script = set_up(&board.config);
     let mut run = Board::fresh(board.config)?;
     for tuple in board.held() {
@@ -279,6 +283,50 @@ mod tests {
     }
 
     #[test]
+    fn under_policy_5_nothing_is_written() {
+        let five = config(4, 1, WAIT_FREE);
+        let listed = Tuple::listed(1, 1, 0, 3);
+        let waiting = Tuple::announcement(2, 0, 3);
+        // Runs end in the first four of these, and in none of the others.
+        let rows = [
+            &[][..],
+            &[listed],
+            &[waiting],
+            &[waiting, listed],
+            &[waiting, waiting],
+            &[Tuple::listed(2, 1, 0, 3)],
+            &[Tuple::proposal(0, 1, 3)],
+            &[Tuple::announcement(2, 0, 0)],
+        ];
+        for tuples in rows {
+            let board = with(five, tuples);
+            for room in [0, 2, 3, LONGEST_DUMP] {
+                let mut buffer = vec![0xA5; room];
+                assert_eq!(dump_into(&board, &mut buffer), Err(Unwritten), "15 before 10 and 14");
+                assert_eq!(buffer, vec![0xA5; room]);
+            }
+            let spoilt: [fn(&mut Board); 5] = [
+                |board| board.count = 5,
+                |board| board.config.n = 3,
+                |board| board.config.k = 2,
+                |board| board.config.policy = 6,
+                |board| board.tuples[127].fields[5].value = 1,
+            ];
+            for spoil in spoilt {
+                let mut board = board.clone();
+                spoil(&mut board);
+                assert_eq!(dump_into(&board, &mut [0xA5; 60]), Err(Unsound), "1 before 15");
+                assert_eq!(dump_into(&board, &mut []), Err(Unsound));
+            }
+        }
+        // The other policies have no announcements.
+        for policy in [config(4, 1, 1), config(4, 1, 2), strong(4, 1, 2), config(4, 1, LIST)] {
+            refused(policy, &[waiting]);
+        }
+        written(&with(config(4, 1, 0), &[waiting, waiting]));
+    }
+
+    #[test]
     fn the_longest_list() {
         let list = |last: u64| -> Vec<Tuple> {
             let listed = |p| Tuple::listed(p, 1 + p % 15, (1 << 28) + p, 200_001);
@@ -433,7 +481,7 @@ mod tests {
         for seat in 0..=config.n as u32 + 1 {
             calls.extend(tuples.iter().map(|entry| Call::out(seat, *entry)));
             calls.extend(templates.iter().map(|template| Call::inp(seat, *template)));
-            // Who calls a cas matters to policy 4 alone.
+            // Who calls a cas matters to policies 4 and 5 alone, and 5 is not written back.
             if seat == 1 || config.policy == LIST {
                 let cas = |template| tuples.iter().map(move |entry| Call::cas(seat, template, *entry));
                 calls.extend(templates.iter().copied().flat_map(cas));

@@ -19,6 +19,8 @@ pub const PROPOSE: u64 = 1;
 pub const DECISION: u64 = 2;
 /// The word that starts a list tuple.
 pub const LISTED: u64 = 3;
+/// The word that starts an announcement.
+pub const ANNOUNCED: u64 = 4;
 
 /// What a field is about.
 #[derive(Clone, Copy, Debug, PartialEq, Eq, Hash)]
@@ -127,6 +129,11 @@ impl Field {
         (self.head() == Some((kind, State::Given))).then_some(self.value)
     }
 
+    /// Whether this is an undefined field of that kind, "*" or "?v".
+    pub fn is_undefined(&self, kind: Kind) -> bool {
+        matches!(self.head(), Some((own, State::Any | State::Open)) if own == kind)
+    }
+
     /// The first fault of the used parts: 4 for the head, 5 for an undefined
     /// field in an entry, 3 for the value.
     pub fn check(&self, role: Role) -> Result<(), Refusal> {
@@ -222,6 +229,16 @@ impl Tuple {
         ])
     }
 
+    /// (word 4, count seat, count serial, offset shift).
+    pub fn announcement(seat: u64, serial: u64, shift: u64) -> Tuple {
+        Tuple::of(&[
+            Field::given(Kind::Word, ANNOUNCED),
+            Field::given(Kind::Count, seat),
+            Field::given(Kind::Count, serial),
+            Field::given(Kind::Offset, shift),
+        ])
+    }
+
     /// The fields in use.
     pub fn used(&self) -> &[Field] {
         &self.fields[..self.count.min(MOST_FIELDS)]
@@ -293,6 +310,19 @@ impl Tuple {
         let (position, seat) = (position.value_of(Kind::Count)?, seat.value_of(Kind::Count)?);
         Some((position, seat, serial.value_of(Kind::Count)?, shift.value_of(Kind::Offset)?))
     }
+
+    /// Seat, serial and shift, if this is (word 4, count, count, offset), all
+    /// given, the shift not the mark: with the mark it is no announcement.
+    pub fn as_announcement(&self) -> Option<(u64, u64, u64)> {
+        let [word, seat, serial, shift] = self.used() else {
+            return None;
+        };
+        if word.value_of(Kind::Word)? != ANNOUNCED {
+            return None;
+        }
+        let shift = shift.value_of(Kind::Offset).filter(|shift| *shift != Offset::MARK)?;
+        Some((seat.value_of(Kind::Count)?, serial.value_of(Kind::Count)?, shift))
+    }
 }
 
 #[cfg(test)]
@@ -322,6 +352,19 @@ mod tests {
             assert_eq!(field.check(Role::Template), Ok(()));
             assert_eq!(field.check(Role::Entry), Err(Refusal::Shape));
         }
+    }
+
+    #[test]
+    fn undefined_fields() {
+        for kind in Kind::ALL {
+            for other in Kind::ALL {
+                assert_eq!(Field::any(kind).is_undefined(other), kind == other);
+                assert_eq!(Field::open(kind).is_undefined(other), kind == other);
+                assert!(!Field::given(kind, 0).is_undefined(other));
+            }
+        }
+        assert!(!Field { state: 3, ..Field::any(Kind::Word) }.is_undefined(Kind::Word));
+        assert!(!Field::BLANK.is_undefined(Kind::Word));
     }
 
     #[test]

@@ -1,5 +1,5 @@
-//! The shared offset board of document 01 with requests 2.1 to 2.4 and 2.6 of
-//! document 02, read independently and written plainly: safe Rust, std only.
+//! The shared offset board of document 01 with requests 2.1 to 2.4, 2.6 and 2.7
+//! of document 02, read independently and written plainly: safe Rust, std only.
 //! Records and matching lie below the board and policies, which lie below the
 //! seat procedure and the program.
 //!
@@ -20,6 +20,8 @@ pub mod board;
 pub mod policy;
 
 pub mod list;
+
+pub mod announcements;
 
 pub mod seat;
 

@@ -1,4 +1,5 @@
-//! Policy 4: a list of shifts that all seats share (02, 2.6).
+//! Policy 4: a list of shifts that all seats share (02, 2.6). Policy 5 has the
+//! same list, and asks otherwise who may list what (`announcements`).
 //!
 //! A list tuple stands on the board as it is, whatever its position, seat and
 //! shift: also one that no run makes lists its seat and serial, and lets the
@@ -12,23 +13,27 @@ use crate::records::Call;
 /// Positions are 1 to this.
 pub const LAST_POSITION: u64 = 112;
 
-/// Whether a cas may list its entry: at the position that its template asks
-/// for, the first or one behind another, of the caller's own number, with a
-/// shift other than the mark, and not listed yet.
+/// Whether policy 4 permits a cas: an entry that fits, of the caller's own
+/// number.
 pub(crate) fn permits(board: &Board, call: &Call) -> bool {
-    let Some((position, seat, serial, shift)) = call.entry.as_listed() else {
-        return false;
-    };
-    call.template == Tuple::listed_template(position)
+    fitting_entry(board, call).is_some_and(|(_, seat, _, _)| seat == u64::from(call.process))
+}
+
+/// Position, seat, serial and shift of a cas's entry, if it fits the list: at
+/// the position that the template asks for, the first or one behind another,
+/// with a shift other than the mark, and not listed yet.
+pub(crate) fn fitting_entry(board: &Board, call: &Call) -> Option<(u64, u64, u64, u64)> {
+    let (position, seat, serial, shift) = call.entry.as_listed()?;
+    let fits = call.template == Tuple::listed_template(position)
         && (1..=LAST_POSITION).contains(&position)
-        && seat == u64::from(call.process)
         && shift != Offset::MARK
         && !is_listed(board, seat, serial)
-        && (position == 1 || is_filled(board, position - 1))
+        && (position == 1 || is_filled(board, position - 1));
+    fits.then_some((position, seat, serial, shift))
 }
 
 /// Whether this seat and serial are listed, at any position with any shift.
-fn is_listed(board: &Board, seat: u64, serial: u64) -> bool {
+pub(crate) fn is_listed(board: &Board, seat: u64, serial: u64) -> bool {
     list(board).any(|(_, q, s, _)| (q, s) == (seat, serial))
 }
 
@@ -197,7 +202,7 @@ mod tests {
         for entry in [Tuple::listed(2, 2, 0, 3), Tuple::proposal(0, 2, 3), Tuple::decision(0, 3, 1)] {
             assert_eq!(board.call(&Call::out(2, entry)), DENIED);
         }
-        // What policies 2 and 3 deny by a number of their own.
+        // What policies 1 to 3 permit or deny by a number of their own.
         let decision = Call::cas(2, Tuple::decision_template(0), Tuple::decision(0, 3, 0));
         assert_eq!(board.call(&decision), DENIED);
     }
@@ -258,6 +263,27 @@ mod tests {
         others[3].count = 6;
         assert_eq!(with(&others).call(&cas(2, 2, 0, 3)), DENIED, "nothing stands at position 1");
         assert_eq!(with(&others).call(&cas(1, 1, 0, 3)), INSERTED, "nothing is listed");
+    }
+
+    #[test]
+    fn announcements_mean_nothing_here() {
+        // Each seat's, and seat 1's first again.
+        let waiting: Vec<Tuple> = [1, 2, 3, 4, 1].map(|seat| Tuple::announcement(seat, 7, 5)).into();
+        let board = with(&waiting);
+        let answer = |call: Call| board.clone().call(&call);
+        for seat in 1..=4 {
+            assert_eq!(answer(cas(1, seat, 0, 3)), INSERTED);
+            assert_eq!(answer(cas(1, seat, 7, 3)), INSERTED);
+            assert_eq!(answer(Call { process: seat % 4 + 1, ..cas(1, seat, 7, 5) }), DENIED);
+            assert_eq!(answer(Call::out(seat, Tuple::announcement(seat.into(), 8, 5))), DENIED);
+            assert_eq!(with(&[]).call(&Call::out(seat, Tuple::announcement(seat.into(), 8, 5))), DENIED);
+            let mut template = Tuple::announcement(seat.into(), 0, 0);
+            assert_eq!(answer(Call::inp(seat, template)), DENIED);
+            template.fields[2] = Field::any(Kind::Count);
+            template.fields[3] = Field::open(Kind::Offset);
+            assert_eq!(answer(Call::inp(seat, template)), DENIED);
+            assert_eq!(answer(Call::rdp(1, template)), Ok(Answer::found(waiting[seat as usize - 1])));
+        }
     }
 
     #[test]

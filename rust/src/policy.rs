@@ -1,7 +1,8 @@
-//! The five policies (01, "Policies", and 02, 2.1 to 2.3 and 2.6). The board
-//! handed to `check` is well formed and the call is sound and of a seat from 1
-//! to n.
+//! The six policies (01, "Policies", and 02, 2.1 to 2.3, 2.6 and 2.7). The
+//! board handed to `check` is well formed and the call is sound and of a seat
+//! from 1 to n.
 
+use crate::announcements;
 use crate::board::Board;
 use crate::fields::{Field, Kind, Tuple, DECISION, MOST_SEATS};
 use crate::list;
@@ -22,6 +23,8 @@ pub const DEFAULT: u64 = 2;
 pub const STRONG: u64 = 3;
 /// Policy 4: a list of shifts, filled position by position.
 pub const LIST: u64 = 4;
+/// Policy 5: the same, but first what a seat has announced, in its turn.
+pub const WAIT_FREE: u64 = 5;
 
 /// Refused 7, or under policies 2 and 3 in its place 12 or 13, unless the
 /// board's policy permits the call.
@@ -30,9 +33,12 @@ pub(crate) fn check(board: &Board, code: Code, call: &Call) -> Result<(), Refusa
         (BARE, _) => Ok(()),
         (WEAK, Code::Cas) if weak_cas(&call.template, &call.entry) => Ok(()),
         (DEFAULT | STRONG, Code::Out) => proposing_out(board, call.process.into(), &call.entry),
-        (DEFAULT | STRONG | LIST, Code::Rdp) => Ok(()),
+        (DEFAULT | STRONG | LIST | WAIT_FREE, Code::Rdp) => Ok(()),
         (DEFAULT | STRONG, Code::Cas) => deciding_cas(board, &call.template, &call.entry),
         (LIST, Code::Cas) if list::permits(board, call) => Ok(()),
+        (WAIT_FREE, Code::Out) if announcements::permits_out(board, call) => Ok(()),
+        (WAIT_FREE, Code::Inp) if announcements::permits_inp(call) => Ok(()),
+        (WAIT_FREE, Code::Cas) if announcements::permits_cas(board, call) => Ok(()),
         _ => Err(Refusal::Denied),
     }
 }
@@ -211,18 +217,20 @@ mod tests {
     }
 
     #[test]
-    fn under_policies_0_1_and_4_nothing_is_second_or_unborne() {
+    fn under_the_other_policies_nothing_is_second_or_unborne() {
         let proposals = [Tuple::proposal(0, 1, 9), Tuple::proposal(0, 2, 9)];
         let answer = |policy, call| filled(board(4, 1, policy), &proposals).call(&call);
         let second = propose(1, 0, 1, 9);
         assert_eq!(answer(BARE, second), Ok(Answer::DONE));
         assert_eq!(answer(WEAK, second), DENIED);
         assert_eq!(answer(LIST, second), DENIED);
+        assert_eq!(answer(WAIT_FREE, second), DENIED);
         for seats in [0, 0b0001, 0b0011, 0b0111, 0b1_0011] {
             for offset in [0, 7, 9] {
                 assert_eq!(answer(BARE, cas(0, offset, seats)), Ok(Answer::INSERTED));
                 assert_eq!(answer(WEAK, cas(0, offset, seats)), DENIED);
                 assert_eq!(answer(LIST, cas(0, offset, seats)), DENIED);
+                assert_eq!(answer(WAIT_FREE, cas(0, offset, seats)), DENIED);
             }
         }
     }

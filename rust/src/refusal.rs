@@ -1,5 +1,5 @@
-//! The numbered refusals (01, "What is returned, and for what", and 02, 2.3 and
-//! 2.4).
+//! The numbered refusals (01, "What is returned, and for what", and 02, 2.3, 2.4
+//! and 2.7).
 
 use std::fmt;
 
@@ -35,6 +35,8 @@ pub enum Refusal {
     Unborne = 13,
     /// No script at all ends in the board that is to be written back.
     Unreached = 14,
+    /// The board that is to be written back is of policy 5.
+    Unwritten = 15,
 }
 
 impl Refusal {

@@ -119,14 +119,16 @@ mod tests {
             ("84 00 01 02", "refused 3\n"),
             ("00 00 80 00", "refused 3\n"),
             ("03 01 02", "refused 1\n"),
-            ("04 01 05", "refused 1\n"),
+            ("04 01 06", "refused 1\n"),
             ("03 01 04", "refused 1\n"),
+            ("03 01 05", "refused 1\n"),
             ("00 00 00", "refused 1\n"),
             ("10 00 00", "refused 1\n"),
             ("0F FF FF FF FF 0F 00", "refused 1\n"),
             ("04 01 00", "board 4 1 0\ntuples 0\n"),
             ("01 00 02", "board 1 0 2\ntuples 0\n"),
             ("04 01 04", "board 4 1 4\ntuples 0\n"),
+            ("04 01 05", "board 4 1 5\ntuples 0\n"),
         ];
         for (script, text) in rows {
             assert_eq!(run(&hex(script)), text, "{script}");
@@ -151,12 +153,14 @@ mod tests {
             ("04 01 03 02", "board 4 1 3 2\ntuples 0\n"),
             ("0A 01 03 08", "board 10 1 3 8\ntuples 0\n"),
             ("01 00 03 08", "board 1 0 3 8\ntuples 0\n"),
-            // Under the other policies a record follows, and policy 5 needs no further number.
+            // Under the other policies a record follows, and policy 6 needs no further number.
             ("04 01 02 02", "board 4 1 2\n1 refused 2\ntuples 0\n"),
             ("04 01 00 02 01 01 04 07", "board 4 1 0\n1 done\ntuples 1\n"),
             ("04 01 04 02", "board 4 1 4\n1 refused 2\ntuples 0\n"),
             ("04 01 04 80 00", "board 4 1 4\n1 refused 3\ntuples 0\n"),
-            ("04 01 05 80 00", "refused 1\n"),
+            ("04 01 05 02", "board 4 1 5\n1 refused 2\ntuples 0\n"),
+            ("04 01 05 80 00", "board 4 1 5\n1 refused 3\ntuples 0\n"),
+            ("04 01 06 80 00", "refused 1\n"),
         ];
         for (script, text) in rows {
             assert_eq!(run(&hex(script)), text, "{script}");
@@ -196,6 +200,31 @@ mod tests {
         let text =
             "board 4 1 4\n1 inserted\n2 held w3 c1 c1 c0 o-40\n3 refused 7\n4 refused 7\n5 refused 7\n\
             6 inserted\n7 refused 7\n8 refused 7\n9 found w3 c2 c2 c0 o40\n10 none\ntuples 2\n";
+        assert_eq!(run(&hex(script)), text);
+    }
+
+    #[test]
+    fn a_shared_list_with_announcements() {
+        // Seat 2 announces -40, and seat 1 lists it at position 2.
+        let script = "04 01 05
+            02 01 04 04 04 08 02 08 07 0C 50
+            02 01 04 04 04 08 02 08 08 0C 50
+            03 04 05 04 03 08 01 09 09 0E 05 04 03 08 01 08 02 08 07 0C 50
+            01 04 05 04 03 08 01 09 09 0E 05 04 03 08 01 08 01 08 00 0C 51
+            01 04 05 04 03 08 02 09 09 0E 05 04 03 08 02 08 01 08 01 0C 51
+            02 04 05 04 03 08 02 09 09 0E 05 04 03 08 02 08 02 08 08 0C 50
+            03 02 04 04 04 08 02 09 0E
+            01 04 05 04 03 08 02 09 09 0E 05 04 03 08 02 08 02 08 07 0C 50
+            03 04 05 04 03 08 02 09 09 0E 05 04 03 08 02 08 02 08 07 0C 50
+            01 03 04 04 04 08 02 09 0E
+            02 03 04 04 04 08 02 08 07 0E
+            02 03 04 04 04 08 02 0A 0D
+            02 03 04 04 04 08 02 09 0E
+            02 01 04 04 04 08 02 08 08 0C 00
+            02 01 04 04 04 08 02 08 08 0C 50";
+        let text = "board 4 1 5\n1 done\n2 refused 7\n3 refused 7\n4 inserted\n5 refused 7\n6 refused 7\n\
+            7 found w4 c2 c7 o-40\n8 inserted\n9 refused 7\n10 refused 7\n11 refused 7\n\
+            12 found w4 c2 c7 o-40\n13 none\n14 refused 7\n15 done\ntuples 3\n";
         assert_eq!(run(&hex(script)), text);
     }
 

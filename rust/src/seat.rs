@@ -314,7 +314,7 @@ mod tests {
         assert_eq!(start(4, 1, 2, 4, 0, 1), Ok(()));
         assert_eq!(start(3, 1, 2, 0, 8, 0), Err(Unsound));
         assert_eq!(start(4, 1, 3, 0, 8, 0), Err(Unsound));
-        for policy in [0, 1, 4, 5] {
+        for policy in [0, 1, 4, 5, 6] {
             assert_eq!(start(4, 1, policy, 1, 0, 1), Err(Unsound));
             assert_eq!(start(4, 1, policy, 0, 8, 0), Err(Unsound));
         }

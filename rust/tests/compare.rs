@@ -3,16 +3,17 @@
 
 mod common;
 
+use common::announced::{self, odd_announced};
 use common::denials::{Cause, Denials};
 use common::dumps::{board_with, near_miss, Dumps};
-use common::lists::{near_call, odd_listed};
+use common::lists::{self, near_call, odd_listed};
 use common::reached::{weak_decision, Flaw};
 use common::*;
 use reference::board::MOST_TUPLES;
 use reference::dump::LONGEST_DUMP;
 use reference::fields::{MOST_FIELDS, MOST_SEATS};
 use reference::list::LAST_POSITION;
-use reference::policy::{BARE, DEFAULT, LAST_ROUND, LIST, STRONG, WEAK};
+use reference::policy::{BARE, DEFAULT, LAST_ROUND, LIST, STRONG, WAIT_FREE, WEAK};
 use reference::records::record_of;
 use reference::{flat, sys};
 use reference::{Answer, AnswerKind, Board, Call, Config, Field, Kind, Offset, Phase, Refusal, Seat, Tuple};
@@ -102,18 +103,22 @@ fn four_seats(policy: u64) -> Config {
 }
 
 /// Boards of every policy, some with the tuples that make a base call permitted; the last of them is no choice under policy 3, and behind
-/// a gap under policy 4.
+/// a gap under policies 4 and 5. Under policy 5 seat 3's announcement waits for that gap.
 fn base_boards() -> Vec<Board> {
     let mut boards = Vec::new();
-    for policy in 0..=4 {
+    for policy in 0..=5 {
         boards.push(Board::fresh(four_seats(policy)).unwrap());
         let offsets = if policy == STRONG { [1, 3, 1, 2] } else { [0x50, 0x51, 0x50, 9] };
         let tuple = |(seat, offset)| match policy {
-            LIST => Tuple::listed(seat + u64::from(seat > 2), seat, 0, offset),
+            LIST | WAIT_FREE => Tuple::listed(seat + u64::from(seat > 2), seat, 0, offset),
             _ => Tuple::proposal(0, seat, offset),
         };
-        let tuples: Vec<Tuple> = (1..).zip(offsets).map(tuple).collect();
+        let mut tuples: Vec<Tuple> = (1..).zip(offsets).map(tuple).collect();
         boards.push(board_with(four_seats(policy), &tuples));
+        if policy == WAIT_FREE {
+            tuples.extend([(2, 0, 3), (3, 7, 5)].map(|(q, s, v)| Tuple::announcement(q, s, v)));
+            boards.push(board_with(four_seats(policy), &tuples));
+        }
     }
     boards
 }
@@ -124,6 +129,9 @@ fn base_calls() -> Vec<Call> {
         Tuple::of(&[Field::given(Kind::Word, 2), Field::given(Kind::Count, 0), last])
     };
     let six = Tuple::of(&[Field::given(Kind::Count, 1); 6]);
+    let own = |serial: Field, shift: Field| {
+        Tuple::of(&[Field::given(Kind::Word, 4), Field::given(Kind::Count, 3), serial, shift])
+    };
     vec![
         Call::out(1, Tuple::proposal(1, 1, 0x50)),
         Call::out(1, Tuple::proposal(1, 1, 3)),
@@ -140,6 +148,11 @@ fn base_calls() -> Vec<Call> {
         Call::rdp(4, Tuple::listed_template(1)),
         Call::cas(1, Tuple::listed_template(1), Tuple::listed(1, 1, 5, 3)),
         Call::cas(2, Tuple::listed_template(3), Tuple::listed(3, 2, 5, 3)),
+        Call::cas(2, Tuple::listed_template(3), Tuple::listed(3, 3, 7, 5)),
+        Call::out(1, Tuple::announcement(1, 5, 3)),
+        Call::out(3, Tuple::announcement(3, 7, 5)),
+        Call::inp(3, own(Field::any(Kind::Count), Field::open(Kind::Offset))),
+        Call::inp(3, own(Field::open(Kind::Count), Field::any(Kind::Offset))),
     ]
 }
 
@@ -189,7 +202,10 @@ fn odd_tuple(dice: &mut Dice, config: &Config) -> Tuple {
         dice.pick(&[0, 1, 1, 2, 3, 4, 5, MOST_SEATS, MOST_SEATS + 1, 4_294_967_295]),
     );
     let offset = near_offset(dice, config);
-    if config.policy == LIST || dice.one_in(20) {
+    if [LIST, WAIT_FREE].contains(&config.policy) || dice.one_in(20) {
+        if dice.one_in(if config.policy == WAIT_FREE { 2 } else { 10 }) {
+            return odd_announced(dice, config, &[]);
+        }
         let place = dice.pick(&[0, 0, 1, 2, 3, 4, 5, LAST_POSITION - 1, LAST_POSITION]);
         return odd_listed(dice, config, place, 4);
     }
@@ -223,8 +239,10 @@ fn bearers(board: &Board, round: u64, offset: u64) -> u64 {
 fn aimed_call(dice: &mut Dice, board: &Board) -> Call {
     let n = board.config.n.clamp(1, MOST_SEATS);
     let seat = if dice.one_in(10) { dice.pick(&SEATS) } else { 1 + dice.below(n) as u32 };
-    if board.config.policy == LIST && !dice.one_in(8) {
-        return near_call(dice, board, seat);
+    match board.config.policy {
+        LIST if !dice.one_in(8) => return near_call(dice, board, seat),
+        WAIT_FREE if !dice.one_in(8) => return announced::near_call(dice, board, seat),
+        _ => {}
     }
     let (round, offset) = (dice.pick(&[0, 0, 0, 1, 7, 8]), near_offset(dice, &board.config));
     let own = if dice.one_in(6) { dice.below(MOST_SEATS + 2) } else { seat.into() };
@@ -257,7 +275,7 @@ fn odd_board(dice: &mut Dice) -> Board {
     let config = if dice.one_in(8) {
         odd_config(dice)
     } else {
-        let (n, policy) = (1 + dice.below(MOST_SEATS), dice.pick(&[0, 1, 2, 2, 2, 3, 3, 3, 4, 4]));
+        let (n, policy) = (1 + dice.below(MOST_SEATS), dice.pick(&[0, 1, 2, 2, 2, 3, 3, 3, 4, 4, 5, 5]));
         config_of(dice, n, policy)
     };
     let mut board = Board { config, count: 0, tuples: [Tuple::BLANK; MOST_TUPLES] };
@@ -297,9 +315,9 @@ fn boards_that_no_run_makes() {
     let mut dice = Dice::new(4);
     let (mut inputs, mut outcomes) = (0, [0usize; ANSWERS]);
     let mut denials = Denials::default();
-    // What is inserted or held under policies 2, 3 and 4.
-    let mut entries = [0usize; 3];
-    for _ in 0..36_000 {
+    // What is inserted or held under policies 2 to 5.
+    let mut entries = [0usize; 4];
+    for _ in 0..42_000 {
         let mut board = odd_board(&mut dice);
         let policy = board.config.policy;
         for _ in 0..2 {
@@ -315,8 +333,9 @@ fn boards_that_no_run_makes() {
         }
     }
     count("calls on boards that no run makes", inputs, format!("answered, refused 1 to 13: {outcomes:?}"));
-    println!("         inserted or held under policies 2, 3 and 4: {entries:?}");
+    println!("         inserted or held under policies 2 to 5: {entries:?}");
     assert!(entries.iter().all(|often| *often > 200), "{entries:?}");
+    denials.announced.assert_each(&lists::Cause::UNDER_5, 25);
     assert!(outcomes[12] > 200 && outcomes[13] > 200, "{outcomes:?}");
 }
 
@@ -472,7 +491,7 @@ fn boards_with_dirty_places() {
         assert_eq!(compare_dump(&board, &vec![0xA5; room]), Err(Refusal::Unsound), "{board:?}");
         inputs += 1;
     };
-    for (policy, held) in (0..=4).flat_map(|policy| HELD.map(|held| (policy, held))) {
+    for (policy, held) in (0..=5).flat_map(|policy| HELD.map(|held| (policy, held))) {
         let config = four_seats(policy);
         let mut clean = Board::fresh(config).unwrap();
         clean.tuples[..held].fill_with(|| odd_tuple(&mut dice, &config));
@@ -494,7 +513,7 @@ fn boards_with_dirty_places() {
         for k in CHOICES.into_iter().filter(|k| *k != config.k) {
             try_board(&mut dice, Board { config: Config { k, ..config }, ..clean.clone() });
         }
-        let strange = |other: &u64| *other > LIST || (*other == STRONG) != (policy == STRONG);
+        let strange = |other: &u64| *other > WAIT_FREE || (*other == STRONG) != (policy == STRONG);
         for policy in POLICIES.into_iter().filter(strange) {
             try_board(&mut dice, Board { config: Config { policy, ..config }, ..clean.clone() });
         }
@@ -510,7 +529,8 @@ fn next_tuple(dice: &mut Dice, board: &Board) -> Tuple {
     let offset = if dice.one_in(20) { no_choice(dice, k) } else { likely_offset(dice, &board.config) };
     match policy {
         _ if dice.one_in(40) => odd_tuple(dice, &board.config),
-        LIST => odd_listed(dice, &board.config, board.count as u64, 16),
+        WAIT_FREE if dice.one_in(3) => odd_announced(dice, &board.config, board.held()),
+        LIST | WAIT_FREE => odd_listed(dice, &board.config, board.count as u64, 16),
         WEAK => weak_decision(dice.below(LAST_ROUND + 1).max(round), offset),
         _ => match ripe(board, round) {
             Some(ripe) if dice.one_in(2) => next_decision(dice, board, round, ripe),
@@ -551,7 +571,7 @@ fn next_decision(dice: &mut Dice, board: &Board, round: u64, offset: u64) -> Tup
 
 /// A board of a few tuples.
 fn small_board(dice: &mut Dice) -> Board {
-    let (n, policy) = (dice.pick(&[1, 2, 3, 4, 4, 4, 5, 7]), dice.below(LIST + 1));
+    let (n, policy) = (dice.pick(&[1, 2, 3, 4, 4, 4, 5, 7]), dice.below(WAIT_FREE + 1));
     let mut board = Board::fresh(config_of(dice, n, policy)).expect("a sound set-up");
     for _ in 0..dice.below(11) {
         board.tuples[board.count] = next_tuple(dice, &board);
@@ -574,7 +594,7 @@ fn written_back(kind: &str, boards: usize, mut next: impl FnMut() -> Board) -> D
 #[test]
 fn small_boards_written_back() {
     let mut dice = Dice::new(15);
-    let dumps = written_back("small boards written back, and boards beside them", 20_000, || {
+    let dumps = written_back("small boards written back, and boards beside them", 22_000, || {
         let board = small_board(&mut dice);
         if dice.one_in(2) {
             near_miss(&mut dice, &board)
@@ -582,7 +602,7 @@ fn small_boards_written_back() {
             board
         }
     });
-    for policy in [BARE, WEAK, DEFAULT, STRONG, LIST] {
+    for policy in [BARE, WEAK, DEFAULT, STRONG, LIST, WAIT_FREE] {
         dumps.assert_came(policy, 25);
     }
     dumps.assert_each(WEAK, &Flaw::UNDER_1, 25);
@@ -597,7 +617,7 @@ fn small_boards_written_back() {
 fn boards_that_no_run_makes_written_back() {
     let mut dice = Dice::new(16);
     let dumps = written_back("boards that no run makes written back", 4_000, || odd_board(&mut dice));
-    for policy in [BARE, WEAK, DEFAULT, STRONG, LIST] {
+    for policy in [BARE, WEAK, DEFAULT, STRONG, LIST, WAIT_FREE] {
         dumps.assert_came(policy, 1);
     }
     let dumps = written_back("boards of a round written back", 3_000, || {
@@ -816,6 +836,7 @@ fn answer(dice: &mut Dice, seat: &Seat) -> Answer {
             AnswerKind::Refused(Refusal::Second),
             AnswerKind::Refused(Refusal::Unborne),
             AnswerKind::Refused(Refusal::Unreached),
+            AnswerKind::Refused(Refusal::Unwritten),
             AnswerKind::Refused(Refusal::Unfit),
         ])),
         (Phase::Proposing, _) => Answer::DONE,
@@ -890,11 +911,11 @@ fn numbers_that_are_no_case() {
             match dice.below(2) {
                 0 => {
                     (reply.outcome, reply.refusal) =
-                        (dice.pick(&[5, 6, 7, 128, 255]), dice.pick(&[0, 1, 7, 11, 12, 13, 14, 15, 255]))
+                        (dice.pick(&[5, 6, 7, 128, 255]), dice.pick(&[0, 1, 7, 11, 12, 13, 14, 15, 16, 255]))
                 }
                 _ => {
                     (reply.outcome, reply.refusal) =
-                        (dice.below(6) as u8, dice.pick(&[1, 2, 7, 11, 12, 13, 14, 15, 255]))
+                        (dice.below(6) as u8, dice.pick(&[1, 2, 7, 11, 12, 13, 14, 15, 16, 255]))
                 }
             }
             let unknown = Answer { kind: AnswerKind::Refused(Refusal::Unfit), tuple: answer.tuple };
@@ -910,13 +931,14 @@ fn numbers_that_are_no_case() {
 fn set_ups_of_scripts() {
     let mut dice = Dice::new(7);
     let mut inputs = 0;
-    let numbers: [&[u8]; 21] = [
+    let numbers: [&[u8]; 22] = [
         &[0],
         &[1],
         &[2],
         &[3],
         &[4],
         &[5],
+        &[6],
         &[8],
         &[9],
         &[10],

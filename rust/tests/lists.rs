@@ -1,9 +1,10 @@
-//! The list of policy 4 (02, 2.6) by the proved library and the plain version: calls on lists that no run makes, lists that reach the last
-//! position, and such boards written back as scripts. Runs in which seats race for its positions are in together.rs, and on the plain
-//! version alone in runs.rs.
+//! The list of policies 4 and 5 (02, 2.6 and 2.7) by the proved library and the plain version: calls on lists and announcements that no run
+//! makes, lists that reach the last position, and such boards written back as scripts, which those of policy 5 are not. Runs in which seats
+//! race for its positions, and help each other, are in together.rs, and on the plain version alone in runs.rs.
 
 mod common;
 
+use common::announced::{self, odd_tuples};
 use common::denials::Denials;
 use common::dumps::{board_with, near_miss, Dumps};
 use common::lists::{near_call, odd_list, Cause};
@@ -11,8 +12,8 @@ use common::reached::Flaw;
 use common::*;
 use reference::fields::MOST_SEATS;
 use reference::list::LAST_POSITION;
-use reference::policy::LIST;
-use reference::{Answer, Board, Call, Config, Refusal, Tuple};
+use reference::policy::{LIST, WAIT_FREE};
+use reference::{Answer, Board, Call, Config, Field, Kind, Offset, Refusal, Tuple};
 
 /// A board under policy 4 with a list that no run need make.
 fn board_of_a_list(dice: &mut Dice) -> Board {
@@ -42,7 +43,7 @@ fn lists_handed_in() {
     println!("compared {inputs:>7} calls on lists handed in: answered, refused 1 to 13: {outcomes:?}");
     denials.print();
     let lists = &denials.lists;
-    lists.assert_each(&Cause::ALL, 50);
+    lists.assert_each(&Cause::UNDER_4, 50);
     let least = [lists.inserted, lists.held, lists.found, lists.none, lists.full].into_iter().min();
     assert!(least > Some(200), "{outcomes:?}");
 }
@@ -114,4 +115,212 @@ fn lists_handed_in_written_back() {
     dumps.print();
     dumps.assert_came(LIST, 50);
     dumps.assert_each(LIST, &Flaw::UNDER_4, 25);
+}
+
+/// A board under policy 5 with a list and announcements that no run need make.
+fn board_of_announcements(dice: &mut Dice) -> Board {
+    let n = 1 + dice.below(MOST_SEATS);
+    let config = config_of(dice, n, WAIT_FREE);
+    board_with(config, &odd_tuples(dice, &config))
+}
+
+/// Calls on announcements handed in: two of one seat, with the mark, of seats above n, of what is listed, with its shift or another.
+#[test]
+fn announcements_handed_in() {
+    let mut dice = Dice::new(24);
+    let (mut inputs, mut outcomes) = (0, [0usize; ANSWERS]);
+    let mut denials = Denials::default();
+    for _ in 0..14_000 {
+        let before = board_of_announcements(&mut dice);
+        for _ in 0..5 {
+            let n = before.config.n;
+            let process = if dice.one_in(20) { dice.pick(&[0, n + 1]) } else { 1 + dice.below(n) } as u32;
+            let call = announced::near_call(&mut dice, &before, process);
+            let answer = compare_call(&mut before.clone(), &call);
+            denials.note(&before, &call, &answer);
+            outcomes[refusal_of(&answer)] += 1;
+            inputs += 1;
+        }
+    }
+    println!(
+        "compared {inputs:>7} calls on announcements handed in: answered, refused 1 to 13: {outcomes:?}"
+    );
+    denials.print();
+    let lists = &denials.announced;
+    lists.assert_each(&Cause::UNDER_4, 50);
+    lists.assert_each(&Cause::UNDER_5, 50);
+    let came = [lists.inserted, lists.held, lists.found, lists.none, lists.full, lists.done];
+    assert!(came.iter().all(|often| *often > 200), "{came:?}");
+    let came = [lists.taken_off, lists.marks_off, lists.helped, lists.help_held, lists.not_held];
+    assert!(came.iter().all(|often| *often > 100), "{came:?}");
+}
+
+/// Four seats, of which one may stray, under policy 5.
+const FOUR: Config = Config { n: 4, t: 1, policy: WAIT_FREE, k: 0 };
+
+fn listed((position, seat, serial, shift): (u64, u64, u64, u64)) -> Tuple {
+    Tuple::listed(position, seat, serial, shift)
+}
+
+fn announcement((seat, serial, shift): (u64, u64, u64)) -> Tuple {
+    Tuple::announcement(seat, serial, shift)
+}
+
+/// What may be listed at position 1, free or taken by seat 4, and by whom.
+#[test]
+fn what_is_owed() {
+    let mark = Offset::MARK;
+    // The announcements, what else is listed, and what is owed at position 1.
+    let rows: [(&[(u64, u64, u64)], &[(u64, u64, u64, u64)], Option<(u64, u64, u64)>); 12] = [
+        (&[], &[], None),
+        (&[(1, 7, 5)], &[], Some((1, 7, 5))),
+        (&[(1, 7, 5), (1, 8, 9)], &[], Some((1, 7, 5))),
+        (&[(1, 7, mark), (1, 8, 9)], &[], Some((1, 8, 9))),
+        (&[(1, 7, mark)], &[], None),
+        (&[(2, 7, 5), (5, 7, 5), (0, 7, 5), (16, 7, 5)], &[], None),
+        (&[(1, 7, 5)], &[(50, 1, 7, 5)], None),
+        (&[(1, 7, 5)], &[(50, 1, 7, 9)], None),
+        (&[(1, 7, 5)], &[(200, 1, 7, mark)], None),
+        (&[(1, 7, 5), (1, 8, 9)], &[(50, 1, 7, 9)], None),
+        (&[(1, 7, 5)], &[(50, 2, 7, 5), (51, 1, 8, 5)], Some((1, 7, 5))),
+        (&[(5, 7, 5), (1, 7, 5)], &[(50, 5, 7, 5)], Some((1, 7, 5))),
+    ];
+    let denied = Answer::from(Refusal::Denied);
+    let mut inputs = 0;
+    for (waiting, list, owed) in rows {
+        for first in [None, Some(listed((1, 4, 0, 3)))] {
+            let list = list.iter().copied().map(listed).chain(first);
+            let tuples: Vec<Tuple> = waiting.iter().copied().map(announcement).chain(list).collect();
+            let before = board_with(FOUR, &tuples);
+            let permitted = first.map_or(Answer::INSERTED, Answer::held);
+            for process in 1..=4 {
+                let own = u64::from(process);
+                let others = [(1, 20, 5), (1, 7, 5), (1, 7, 9), (1, 8, 9), (2, 20, 5)];
+                let tries = [&[(own, 20, 5), (own, 20, 9)], waiting, &others].concat();
+                for (seat, serial, shift) in tries.into_iter().filter(|(_, _, shift)| *shift != mark) {
+                    let entry = Tuple::listed(1, seat, serial, shift);
+                    let call = Call::cas(process, Tuple::listed_template(1), entry);
+                    let again = |held: &Tuple| held.count == 5 && held.fields[2..4] == entry.fields[2..4];
+                    let right = match owed {
+                        Some(owed) => owed == (seat, serial, shift),
+                        None => seat == own && !tuples.iter().any(again),
+                    };
+                    let answer = compare_call(&mut before.clone(), &call);
+                    assert_eq!(answer, if right { permitted } else { denied }, "{call:?} on {before:?}");
+                    inputs += 1;
+                }
+            }
+        }
+    }
+    println!("compared {inputs:>7} calls at a position where something is owed, or nothing");
+}
+
+/// Every field that is undefined, or given with a small value; those of the right templates are among them.
+fn fields() -> Vec<Field> {
+    let of_kind = |kind: Kind| {
+        let given = [0, 1, 2, 3, 4, 5, 7].map(|value| Field::given(kind, value));
+        given.into_iter().chain([Field::any(kind), Field::open(kind)])
+    };
+    Kind::ALL.into_iter().flat_map(of_kind).collect()
+}
+
+/// Templates of inp, and of a cas where something is owed, with one field or two replaced by any other; and those with a field more or
+/// fewer.
+#[test]
+fn nearly_right_templates() {
+    let tuples = [(2, 7, 5), (3, 7, Offset::MARK)].map(announcement);
+    let before = board_with(FOUR, &[&[listed((1, 1, 0, 3))], &tuples[..]].concat());
+    let own = [Field::given(Kind::Word, 4), Field::given(Kind::Count, 2)];
+    let off = Call::inp(2, Tuple::of(&[own[0], own[1], Field::any(Kind::Count), Field::open(Kind::Offset)]));
+    let cas = Call::cas(3, Tuple::listed_template(2), listed((2, 2, 7, 5)));
+    let (fields, mut inputs, mut denials) = (fields(), 0, Denials::default());
+    let mut permitted = [0usize; 2];
+    for (which, base) in [off, cas].into_iter().enumerate() {
+        let mut try_template = |template: Tuple| {
+            let call = Call { template, ..base };
+            let answer = compare_call(&mut before.clone(), &call);
+            denials.note(&before, &call, &answer);
+            permitted[which] += usize::from(!refused(&answer));
+            inputs += 1;
+        };
+        let count = base.template.count;
+        for first in 0..count {
+            for second in 0..first {
+                for one in &fields {
+                    for other in &fields {
+                        let mut template = base.template;
+                        template.fields[first] = *one;
+                        template.fields[second] = *other;
+                        try_template(template);
+                    }
+                }
+            }
+        }
+        try_template(Tuple::of(&base.template.fields[..count - 1]));
+        for field in &fields {
+            try_template(Tuple::of(&[&base.template.fields[..count], &[*field]].concat()));
+        }
+    }
+    println!("compared {inputs:>7} calls with templates nearly right: permitted {permitted:?}");
+    assert!(permitted.iter().all(|often| *often > 0), "{permitted:?}");
+    let causes = [Cause::InpAnothers, Cause::InpAnybodys, Cause::InpGiven, Cause::Template];
+    denials.announced.assert_each(&causes, 10);
+}
+
+/// Lists up to the last position, each of whose tuples was announced and is listed by another seat, where there is one; none of these boards is written back.
+#[test]
+fn lists_of_112_announcements() {
+    let mut dumps = Dumps::default();
+    let denied = Answer::from(Refusal::Denied);
+    for n in [1, 2, 4, MOST_SEATS] {
+        let mut board = Board::fresh(Config { n, t: (n - 1) / 3, policy: WAIT_FREE, k: 0 }).unwrap();
+        let cas = |process: u64, position, (seat, serial): (u64, u64)| {
+            let entry = Tuple::listed(position, seat, serial, 200_001);
+            Call::cas(process as u32, Tuple::listed_template(position), entry)
+        };
+        let preferred = |position: u64| if position % n == 0 { n } else { position % n };
+        let out = |seat: u64, serial| Call::out(seat as u32, announcement((seat, serial, 200_001)));
+        for seat in 1..=n {
+            assert_eq!(compare_call(&mut board, &out(seat, seat)), Answer::DONE);
+            assert_eq!(compare_call(&mut board, &out(seat, 200)), denied);
+        }
+        for position in 1..=LAST_POSITION + n {
+            let seat = preferred(position);
+            let helper = 1 + seat % n;
+            let right = if position <= LAST_POSITION { Answer::INSERTED } else { denied };
+            // Neither the preferred seat's own, nor another's.
+            assert_eq!(compare_call(&mut board, &cas(seat, position, (seat, 500))), denied);
+            assert_eq!(compare_call(&mut board, &cas(helper, position, (helper, 500))), denied);
+            assert_eq!(compare_call(&mut board, &cas(helper, position, (seat, position))), right);
+            assert_eq!(dumps.note(&board), Err(Refusal::Unwritten));
+            if position > LAST_POSITION {
+                continue;
+            }
+            let own = Tuple::announcement(seat, position, 200_001);
+            let mut template = own;
+            template.fields[2] = Field::open(Kind::Count);
+            template.fields[3] = Field::any(Kind::Offset);
+            assert_eq!(compare_call(&mut board, &Call::inp(seat as u32, template)), Answer::found(own));
+            assert_eq!(dumps.note(&board), Err(Refusal::Unwritten));
+            assert_eq!(compare_call(&mut board, &out(seat, position + n)), Answer::DONE);
+        }
+        assert_eq!(board.count as u64, LAST_POSITION + n);
+        for position in [0, 113, 114, 255] {
+            assert_eq!(compare_call(&mut board, &cas(1, position, (1, 500))), denied);
+        }
+    }
+    println!("compared {:>7} lists of announcements, each refused 15", dumps.boards());
+}
+
+#[test]
+fn announcements_handed_in_written_back() {
+    let mut dice = Dice::new(25);
+    let mut dumps = Dumps::default();
+    for _ in 0..3_000 {
+        let board = board_of_announcements(&mut dice);
+        _ = dumps.note(&if dice.one_in(2) { near_miss(&mut dice, &board) } else { board });
+    }
+    println!("compared {:>7} boards of announcements handed in, and boards beside them", dumps.boards());
+    dumps.print();
+    dumps.assert_came(WAIT_FREE, 50);
 }

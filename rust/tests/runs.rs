@@ -1,17 +1,20 @@
 //! Demand 3 on random runs under policies 2 and 3: following seats, strays that
 //! call anything, any order. The list of policy 4 on such runs: seats that race
-//! for its positions hold the same sums. And the record reader on random bytes.
+//! for its positions hold the same sums. That of policy 5: the same, and what a
+//! seat announces is listed within n positions. And the record reader on random
+//! bytes.
 
 mod common;
 
 use std::collections::HashMap;
 
+use common::announced::{Came, Helping};
 use common::denials::Denials;
 use common::lists::{Cause, Race};
 use common::{config_of, Dice};
 use reference::fields::MOST_SEATS;
 use reference::list::LAST_POSITION;
-use reference::policy::{DEFAULT, LAST_ROUND, LIST, STRONG};
+use reference::policy::{DEFAULT, LAST_ROUND, LIST, STRONG, WAIT_FREE};
 use reference::records::{read_record, record_of};
 use reference::{
     Answer, AnswerKind, Board, Call, Config, Field, Kind, Offset, Phase, Refusal, Seat, Step, Tuple,
@@ -246,7 +249,44 @@ fn runs_of_a_list() {
     let sums: usize = runs.iter().map(|[_, sums]| sums).sum();
     assert!(whole > 20 && sums > 50_000, "{whole} {sums}");
     assert!(denials.lists.inserted > 5_000 && denials.lists.held > 10_000);
-    denials.lists.assert_each(&Cause::ALL, 100);
+    denials.lists.assert_each(&Cause::UNDER_4, 100);
+}
+
+/// Makes one run under policy 5; gives what came of it.
+fn run_of_announcements(dice: &mut Dice, denials: &mut Denials) -> Came {
+    let n = 1 + dice.below(MOST_SEATS);
+    let mut board = Board::fresh(config_of(dice, n, WAIT_FREE)).unwrap();
+    let mut helping = Helping::new(dice, &board.config);
+    for _ in 0..helping.calls(dice, 6_000) {
+        let call = helping.call(dice, &board);
+        let before = board.clone();
+        let answer = Answer::from(board.call(&call));
+        match answer.kind {
+            AnswerKind::Done | AnswerKind::Inserted => assert_eq!(board.count, before.count + 1),
+            AnswerKind::Found if call.code == 3 => assert_eq!(board.count, before.count - 1),
+            _ => assert_eq!(board, before),
+        }
+        denials.note(&before, &call, &answer);
+        helping.hear(dice, &board, &call, &answer);
+        if helping.is_over(dice) {
+            break;
+        }
+    }
+    helping.check(&board);
+    helping.came
+}
+
+#[test]
+fn runs_of_announcements() {
+    let mut dice = Dice::new(27);
+    let (mut denials, mut came) = (Denials::default(), Came::default());
+    for _ in 0..300 {
+        came.add(&run_of_announcements(&mut dice, &mut denials));
+    }
+    came.assert_each([20, 20_000, 50_000, 3_000, 1_000, 300, 300, 500]);
+    denials.announced.assert_each(&Cause::UNDER_4, 50);
+    denials.announced.assert_each(&Cause::UNDER_5, 50);
+    assert!(denials.announced.taken_off > 1_000 && denials.announced.not_held > 50);
 }
 
 #[test]

@@ -1,13 +1,15 @@
 //! Whole runs by both, call by call and as scripts: following seats, driven by the procedure, among strays that aim at the decision.
 //! On each run under policies 2 and 3 demand 3's four properties are checked: agreement, validity, unanimity, a decision within n + 1
 //! calls. Under policy 3 every decision is a choice. Under policy 4 seats race for the positions of the list, and all that have read the
-//! same positions hold the same sum. Every board of the runs is written back as a script, and at their ends boards beside the last one are
-//! too.
+//! same positions hold the same sum. Under policy 5 they announce their shifts and list each other's, and none waits for more than n
+//! positions. Every board of the runs is written back as a script, or refused under policy 5, and at their ends boards beside the last one
+//! are too.
 
 mod common;
 
 use std::collections::{BTreeMap, HashMap};
 
+use common::announced::{Came, Helping};
 use common::denials::{Cause, Denials};
 use common::dumps::{near_miss, Dumps};
 use common::lists::{self, Race};
@@ -15,7 +17,7 @@ use common::reached::Flaw;
 use common::*;
 use reference::fields::MOST_SEATS;
 use reference::list::LAST_POSITION;
-use reference::policy::{BARE, DEFAULT, LIST, STRONG, WEAK};
+use reference::policy::{BARE, DEFAULT, LIST, STRONG, WAIT_FREE, WEAK};
 use reference::records::record_of;
 use reference::script::LONGEST_SCRIPT;
 use reference::{
@@ -137,7 +139,9 @@ impl Run {
 
     /// Writes the board back as a script, by both.
     fn dump(&self, counts: &mut Counts) {
-        counts.dumps.note(&self.board).expect("a script ends in a run's board");
+        let refusal = counts.dumps.note(&self.board).err();
+        // A script ends in a run's board, but under policy 5 none is written.
+        assert_eq!(refusal, (self.config.policy == WAIT_FREE).then_some(Refusal::Unwritten));
     }
 
     /// At the end of the run: boards beside its last one.
@@ -417,6 +421,26 @@ fn run_of_a_list(dice: &mut Dice, counts: &mut Counts) -> [usize; 3] {
     [run.board.count, race.read_again, sums]
 }
 
+/// Policy 5: seats that announce their shifts and list each other's, among strays.
+fn run_of_announcements(dice: &mut Dice, counts: &mut Counts) -> Came {
+    let n = 1 + dice.below(MOST_SEATS);
+    let mut run = Run::new(config_of(dice, n, WAIT_FREE));
+    let mut helping = Helping::new(dice, &run.config);
+    for _ in 0..helping.calls(dice, 2_400) {
+        let call = helping.call(dice, &run.board);
+        let answer = run.call(&call, counts);
+        helping.hear(dice, &run.board, &call, &answer);
+        if helping.is_over(dice) {
+            break;
+        }
+    }
+    helping.check(&run.board);
+    assert!(run.script.len() <= LONGEST_SCRIPT, "{}", run.script.len());
+    run.script(dice, counts);
+    run.dump_beside(dice, counts);
+    helping.came
+}
+
 /// So many runs under a policy, and what was counted in them.
 fn runs_under(policy: u64, seed: u64, runs: usize) -> Counts {
     let mut dice = Dice::new(seed);
@@ -486,8 +510,29 @@ fn runs_under_policy_4() {
     assert!(whole >= 5 && met > 5_000 && sums > 5_000, "{whole} {met} {sums}");
     let lists = &counts.denials.lists;
     assert!(lists.held > 3_000 && lists.found > 1_000 && lists.none > 200, "{} {}", lists.held, lists.found);
-    lists.assert_each(&lists::Cause::ALL, 10);
+    lists.assert_each(&lists::Cause::UNDER_4, 10);
     counts.misses.assert_each(LIST, &[Flaw::Misplaced], 50);
+}
+
+#[test]
+fn runs_under_policy_5() {
+    let mut dice = Dice::new(26);
+    let (mut counts, mut came) = (Counts::default(), Came::default());
+    for _ in 0..150 {
+        came.add(&run_of_announcements(&mut dice, &mut counts));
+    }
+    let Counts { calls, scripts, refused, .. } = counts;
+    println!("compared {calls:>7} calls of 150 runs under policy 5: {refused} refused");
+    counts.denials.print();
+    came.print();
+    println!("compared {scripts:>7} scripts of these runs, whole, damaged, into short buffers");
+    counts.print_dumps();
+    came.assert_each([5, 10_000, 10_000, 1_000, 500, 100, 100, 200]);
+    counts.denials.announced.assert_each(&lists::Cause::UNDER_4, 10);
+    counts.denials.announced.assert_each(&lists::Cause::UNDER_5, 10);
+    assert!(counts.denials.announced.taken_off > 1_000 && counts.denials.announced.not_held > 200);
+    assert!(counts.dumps.under(WAIT_FREE).unwritten > 5_000);
+    counts.misses.assert_came(WAIT_FREE, 5);
 }
 
 #[test]

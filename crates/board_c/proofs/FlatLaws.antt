@@ -8,7 +8,7 @@ use Rattle.board_c.specs.Flat.{outcomeNumber, outcomeRefusal, plainOutco
 use Rattle.board_c.specs.Laws.{ReplyRule, ProcessRule, KeptRule}
 use Rattle.process.specs.declared.process.Phase.{Phase}
 use Rattle.process.specs.declared.process.Phase.the-variants.{Proposing, Reading, Deciding, Decided}
-use Rattle.tuple.specs.declared.refusal.Refusal.the-variants.{Unsound, Cut, Beyond, Unknown, Misshapen, Stranger, Denied, Full, LongScript, NoRoom, Unfit, SecondProposal, Unborne, Unreached}
+use Rattle.tuple.specs.declared.refusal.Refusal.the-variants.{Unsound, Cut, Beyond, Unknown, Misshapen, Stranger, Denied, Full, LongScript, NoRoom, Unfit, SecondProposal, Unborne, Unreached, Unscripted}
 use Rattle.tuple.specs.declared.reply.Outcome.{Outcome}
 use Rattle.tuple.specs.declared.reply.Outcome.the-variants.{Done, None, Found, Inserted, Held, Refused}
 
@@ -33,6 +33,7 @@ outcome-back (Refused Unfit) = refl
 outcome-back (Refused SecondProposal) = refl
 outcome-back (Refused Unborne) = refl
 outcome-back (Refused Unreached) = refl
+outcome-back (Refused Unscripted) = refl
 
 pub reply-back : ReplyRule
 reply-back reply = rw (outcome-back (reply .outcome))

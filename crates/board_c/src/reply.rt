@@ -199,6 +199,7 @@ fn refusal_of(number: u8) -> Refusal
         11 => Refusal::Unfit,
         12 => Refusal::SecondProposal,
         13 => Refusal::Unborne,
-        _ => Refusal::Unreached,
+        14 => Refusal::Unreached,
+        _ => Refusal::Unscripted,
     }
 }

@@ -42,7 +42,7 @@ moves-refused why (Moves.full p none) r = (cc, refl)
 moves-refused why (Moves.reads e) r = (cc, cc)
 moves-refused why Moves.lacks r = (cc, cc)
 moves-refused why Moves.keeps r = (cc, cc)
-moves-refused why (Moves.takes i e inside) r = (cc, cc)
+moves-refused why (Moves.takes i e at inside) r = (cc, cc)
 
 module _ (space : Space) (call : Call) where
   steps-denied : {after : Applied} (why : Refusal) → Denial why → Steps space call after → after .reply .outcome ≡ Refused why → Denied why space call

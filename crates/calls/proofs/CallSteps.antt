@@ -109,7 +109,7 @@ pub data Moves (tuples : List Tuple) (call : Call) : Outcome → Change → Type
   reads : call .code ≡ rdp → Moves tuples call outcome.Found Keep
   lacks : Moves tuples call outcome.None Keep
   keeps : Moves tuples call outcome.Held Keep
-  takes : (i : ℕ) → call .code ≡ inp → i < length tuples → Moves tuples call outcome.Found (Remove i)
+  takes : (i : ℕ) → call .code ≡ inp → oldestOf tuples (call .template) ≡ At i → i < length tuples → Moves tuples call outcome.Found (Remove i)
 
 abbrev Moved : List Tuple → Call → Effect → Type 0
 Moved tuples call does = Moves tuples call (does .reply .outcome) (does .change)
@@ -126,7 +126,7 @@ module _ (tuples : List Tuple) (call : Call) where
   rdp-moves e Nowhere = lacks
 
   inp-moves : call .code ≡ inp → (found : Found) → oldestOf tuples (call .template) ≡ found → Moved tuples call (effects.inpEffect tuples found)
-  inp-moves e (At i) at = takes i e (oldest-rule .at tuples (call .template) i .0 at .0)
+  inp-moves e (At i) at = takes i e at (oldest-rule .at tuples (call .template) i .0 at .0)
   inp-moves e Nowhere at = lacks
 
   cas-moves : call .code ≡ cas → (found : Found) → oldestOf tuples (call .template) ≡ found → Moved tuples call (effects.casEffect tuples found)
@@ -160,7 +160,7 @@ module _ {tuples : List Tuple} {call : Call} where
   moves-carried config few (reads e) = refl
   moves-carried config few lacks = refl
   moves-carried config few keeps = refl
-  moves-carried config few (takes i e inside) = carried-rules config tuples (call .entry) .remove i inside few
+  moves-carried config few (takes i e at inside) = carried-rules config tuples (call .entry) .remove i inside few
 
   pub puts-entry : {how : Outcome} → callFault call ≡ Absent → Puts tuples call how → isEntry (call .entry) ≡ true
   unfolding usesEntry
@@ -178,7 +178,7 @@ module _ {tuples : List Tuple} {call : Call} where
   moves-lawful sound lawful (reads e) = lawful
   moves-lawful sound lawful lacks = lawful
   moves-lawful sound lawful keeps = lawful
-  moves-lawful sound lawful (takes i e inside) =
+  moves-lawful sound lawful (takes i e at inside) =
       record {
         few = simp (length-append, length-take, length-drop) (omega arith);
         entries = λ tuple m. lawful .entries tuple (⊎-elim (mem-take i tuples) (mem-drop (i + 1) tuples) (List·Memᴰ·append-cases (take i tuples) m));

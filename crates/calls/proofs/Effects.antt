@@ -88,9 +88,9 @@ pub data Step (config : Config) (tuples : List Tuple) (call : Call) (done : Appl
 
 -- ---- what the policies permit
 
-pub no-inp : (config : Config) → 1 ≤ config .policy → NoInp config
-no-inp config strict tuples call code permitted =
-    let denied = inp-rule config tuples call strict code in
+pub no-inp : (config : Config) → 1 ≤ config .policy → config .policy ≤ 4 → NoInp config
+no-inp config strict early tuples call code permitted =
+    let denied = inp-rule config tuples call strict early code in
     let z : _≡_ {A = ℕ} 0 1 = cc in omega arith
 
 module _ (config : Config) (safe : sound config ≡ true) (deciding : Deciding config) (tuples : List Tuple) (call : Call) (permitted : verdictOn config tuples call ≡ Permit) where
@@ -167,7 +167,7 @@ module _ (config : Config) (safe : sound config ≡ true) (deciding : Deciding c
     obeyed (reads e) answers same = kept (λ f. let z : _≡_ {A = ℕ} 0 1 = cc in omega arith) same
     obeyed lacks answers same = kept (λ f. let z : _≡_ {A = ℕ} 0 1 = cc in omega arith) same
     obeyed keeps answers same = kept (λ f. let z : _≡_ {A = ℕ} 0 1 = cc in omega arith) same
-    obeyed (takes i e inside) answers same = absurd (no-inp config (deciding .0) tuples call e permitted)
+    obeyed (takes i e at inside) answers same = absurd (no-inp config (deciding .0) (omega (arith, deciding .1)) tuples call e permitted)
 
   stepped : {done : Applied} → Steps (spaceOf config tuples) call done → Step config tuples call done
   unfolding carriedOut

@@ -9,28 +9,30 @@ use mathlib.Core.List.{List, [], _∷_, _++_, append-nil, append-assoc, List·Me
 use lib.ListN.{length, getD, length-append}
 use lib.Seq.{append-snoc}
 use lib.Dec.{eqb}
-use borrow.Author.Tests.{eqb-true, eqb-false, le-leb}
+use borrow.Author.Tests.{eqb-true, eqb-false, le-leb, eq-eqb}
 use borrow.Table.Steps.{cases}
 use Rattle.calls.specs.declared.turn.Applied.{Applied}
 use Rattle.calls.specs.Changes.{carriedOut}
 use Rattle.calls.specs.Effects.{effect}
 use Rattle.calls.specs.ListLaws.{Pick, Able, noPick, EveryList}
-use Rattle.calls.specs.Lists.{listAfter, listCas, Tells, ReadTo}
+use Rattle.calls.specs.Lists.{listOf, listAfter, listCas, Tells, ReadTo}
 use Rattle.calls.specs.Lists.Tells.{finds}
 use Rattle.calls.specs.Turns.{Turn, applied, turnsFrom, turns, lastOf, after, last}
 use Rattle.calls.proofs.CallLaws.{permitted-applied}
-use Rattle.calls.proofs.ListSteps.{Entry, Orderly, orderly-none, each-more, list-advance}
-use Rattle.calls.proofs.ListingLaws.{left, list-found, next-space}
+use Rattle.calls.proofs.ListSteps.{Entry, Orderly, each-more, Shared, shared-none, list-keeps}
+use Rattle.calls.proofs.ListingLaws.{shared-whole, list-found, next-space}
 use Rattle.calls.proofs.RunSteps.{next, none-lawful, fresh-space}
 use Rattle.calls.proofs.SumLaws.{after-append}
+use Rattle.calls.proofs.Walks.{turns-behind}
 use Rattle.policy.specs.Listing.{listTemplate, positions}
-use Rattle.policy.proofs.ListingLaws.{list-rule}
+use Rattle.policy.proofs.ListingLaws.{list-rule, nothing-owed}
 use Rattle.space.specs.declared.config.Config.{Config}
 use Rattle.space.specs.declared.space.Space.{Space}
 use Rattle.space.specs.Configs.{sound}
 use Rattle.space.specs.Lists.{listTuple, serialOf, shiftCode}
 use Rattle.space.specs.Shapes.{processOf}
 use Rattle.space.specs.Spaces.{held, spaceOf}
+use Rattle.space.proofs.ConfigLaws.{sound-range, has-list-rule}
 use Rattle.space.proofs.SpaceRules.{Lawful, held-of, formed-of, place}
 use Rattle.tuple.specs.declared.fault.Fault.the-variants.{Absent}
 use Rattle.tuple.specs.declared.field.Tuple.{Tuple}
@@ -66,30 +68,34 @@ entries-picked at (pick ∷ picks) zero h = (refl, refl)
 entries-picked at (pick ∷ picks) (suc i) h = entries-picked (at + 1) picks i (omega arith)
 
 -- a list in order whose serials are its positions
-record Numbered (tuples : List Tuple) : Type 0 where
-  orderly : Orderly tuples
+record Numbered (config : Config) (tuples : List Tuple) : Type 0 where
+  shared : Shared config tuples
   lawful : Lawful tuples
   serials : (i : ℕ) → i < length tuples → serialOf (getD tuples i blankTuple) ≡ i + 1
 
 module _ (config : Config) (safe : sound config ≡ true) (is-four : config .policy ≡ 4) where
-  numbered-next : (tuples : List Tuple) → Numbered tuples → (pick : Pick) → Able config pick → length tuples < positions
+  numbered-next : (tuples : List Tuple) → Numbered config tuples → (pick : Pick) → Able config pick → length tuples < positions
       → let at = length tuples + 1 in
       let entry = listTuple at (pick .process) at (pick .code) in
-      Numbered (tuples ++ (entry ∷ [])) × (applied (spaceOf config tuples) (listCas (pick .process) at at (pick .code)) .space ≡ spaceOf config (tuples ++ (entry ∷ [])))
+      Numbered config (tuples ++ (entry ∷ [])) × (applied (spaceOf config tuples) (listCas (pick .process) at at (pick .code)) .space ≡ spaceOf config (tuples ++ (entry ∷ [])))
   numbered-next tuples numbered pick able room =
       let at = length tuples + 1 in
       let entry = listTuple at (pick .process) at (pick .code) in
       let call = listCas (pick .process) at at (pick .code) in
       let more = tuples ++ (entry ∷ []) in
-      let left = next-space config safe is-four tuples (numbered .orderly) (numbered .lawful) (pick .process) at at (pick .code) (omega arith) (omega arith) (omega arith)
-      (able .known .0) (able .known .1) (omega arith) (able .some) (able .small)
-      (λ l. let stood = place tuples (l .stands) in omega (arith, stood .1, numbered .serials (stood .0) (stood .1), ap serialOf (stood .2), l .with-serial)) refl in
-      let step = list-advance config is-four tuples (numbered .orderly) call .keeps in
+      let shares = has-list-rule config .1 (inl is-four) in
+      let whole = ap length (shared-whole is-four (numbered .shared)) in
+      let range = sound-range config safe in
+      let left = next-space config safe shares tuples (numbered .shared) (numbered .lawful) (pick .process) at (pick .process) at (pick .code) (omega arith) (omega (arith, whole)) (omega arith)
+      (able .known .0) (able .known .1) (omega (arith, able .known .1)) (omega arith) (able .some) (able .small)
+      (λ l. let stood = place tuples (l .stands) in omega (arith, stood .1, numbered .serials (stood .0) (stood .1), ap serialOf (stood .2), l .with-serial))
+      (nothing-owed config tuples call is-four ∙ eq-eqb (pick .process) (pick .process) refl) (omega (arith, whole)) in
+      let step = list-keeps config safe shares tuples (numbered .shared) call in
       let run = next {call = call} (record { tuples = tuples; lawful = numbered .lawful; same = refl }) .run in
       let stepped : step .next ≡ more = sym (held-of config (step .next)) ∙ ap held (sym (step .space) ∙ left) ∙ held-of config more in
       let ran : run .tuples ≡ more = sym (held-of config (run .tuples)) ∙ ap held (sym (run .same) ∙ left) ∙ held-of config more in (
         record {
-          orderly = subst Orderly stepped (step .kept);
+          shared = subst (Shared config) stepped (step .kept);
           lawful = subst Lawful ran (run .lawful);
           serials = each-more tuples entry (λ (i : ℕ) (t : Tuple). serialOf t ≡ i + 1) (numbered .serials) refl;
         },
@@ -97,10 +103,10 @@ module _ (config : Config) (safe : sound config ≡ true) (is-four : config .pol
       )
 
   -- the tuples that filling leaves
-  filled : (picks : List Pick) (tuples : List Tuple) → Numbered tuples → ((pick : Pick) → List·Memᴰ pick picks → Able config pick)
+  filled : (picks : List Pick) (tuples : List Tuple) → Numbered config tuples → ((pick : Pick) → List·Memᴰ pick picks → Able config pick)
       → length tuples + length picks ≤ positions
       → let end = tuples ++ entries (length tuples + 1) picks in
-      Numbered end × (after (spaceOf config tuples) (fills (length tuples + 1) picks) ≡ spaceOf config end)
+      Numbered config end × (after (spaceOf config tuples) (fills (length tuples + 1) picks) ≡ spaceOf config end)
   unfolding entries fills lastOf turnsFrom
   filled [] tuples numbered able room = rw (append-nil tuples) (numbered, refl)
   filled (pick ∷ picks) tuples numbered able room =
@@ -111,8 +117,8 @@ module _ (config : Config) (safe : sound config ≡ true) (is-four : config .pol
       let long : length more ≡ at = length-append tuples (entry ∷ []) in
       let later = filled picks more (step .0) (λ c m. able c (List·Memᴰ·tail m)) (omega (arith, long)) in
       let same : more ++ entries (at + 1) picks ≡ tuples ++ (entry ∷ entries (at + 1) picks) = append-snoc tuples entry (entries (at + 1) picks) in
-      let end = subst (λ (k : ℕ). Numbered (more ++ entries (k + 1) picks) × (after (spaceOf config more) (fills (k + 1) picks) ≡ spaceOf config (more ++ entries (k + 1) picks))) long later in (
-        subst Numbered same (end .0),
+      let end = subst (λ (k : ℕ). Numbered config (more ++ entries (k + 1) picks) × (after (spaceOf config more) (fills (k + 1) picks) ≡ spaceOf config (more ++ entries (k + 1) picks))) long later in (
+        subst (Numbered config) same (end .0),
         ap (λ (s : Space). after s (fills (at + 1) picks)) (step .1) ∙ end .1 ∙ ap (spaceOf config) same,
       )
 
@@ -198,19 +204,17 @@ module _ (space : Space) where
       (λ later. List·Memᴰ·tail (rw (still first (List·Memᴰ·head refl)) (turns-still calls (λ c m. still c (List·Memᴰ·tail m)) call later)))
       (List·Memᴰ·cases-cons occurs)
 
-turns-behind : (space : Space) (before calls : List Call) (turn : Turn) → List·Memᴰ turn (turnsFrom (after space before) calls) → List·Memᴰ turn (turnsFrom space (before ++ calls))
-unfolding lastOf turnsFrom
-turns-behind space [] calls turn m = m
-turns-behind space (call ∷ before) calls turn m = List·Memᴰ·tail (turns-behind (applied space call .space) before calls turn m)
+module _ (config : Config) (safe : sound config ≡ true) (is-four : config .policy ≡ 4) (tuples : List Tuple) (numbered : Numbered config tuples) where
+  orderly : Orderly tuples
+  orderly = subst Orderly (shared-whole is-four (numbered .shared)) (numbered .shared .list)
 
-module _ (config : Config) (safe : sound config ≡ true) (is-four : config .policy ≡ 4) (tuples : List Tuple) (numbered : Numbered tuples) where
   read-applied : (process i : ℕ) → 1 ≤ process → process ≤ config .n → i < length tuples → length tuples ≤ positions
       → applied (spaceOf config tuples) (readAt process (i + 1)) ≡ record { reply = record { outcome = Found; tuple = getD tuples i blankTuple }; space = spaceOf config tuples }
   unfolding readAt effect carriedOut
   read-applied process i some few below short =
       permitted-applied (spaceOf config tuples) (readAt process (i + 1)) (formed-of config tuples safe (numbered .lawful)) (read-faultless process (i + 1) (omega arith)) (some, few)
       (rw (held-of config tuples) (list-rule config tuples (readAt process (i + 1)) is-four .1 (inl refl)))
-      ∙ rw (held-of config tuples, list-found (numbered .orderly) i below) refl
+      ∙ rw (held-of config tuples, list-found orderly i below) refl
 
   -- where they read, the space stays
   still : length tuples ≤ positions → (call : Call) → List·Memᴰ call (sweeps (config .n) (length tuples)) → applied (spaceOf config tuples) call .space ≡ spaceOf config tuples
@@ -222,7 +226,7 @@ module _ (config : Config) (safe : sound config ≡ true) (is-four : config .pol
 pub every-list : EveryList
 unfolding turns turnOf readAt
 every-list config picks safe is-four short able =
-    let start : Numbered [] = record { orderly = orderly-none; lawful = none-lawful; serials = λ i h. absurd (omega arith) } in
+    let start : Numbered config [] = record { shared = shared-none config; lawful = none-lawful; serials = λ i h. absurd (omega arith) } in
     let fresh = fresh-space config safe in
     let list = filled config safe is-four picks [] start able (omega arith) in
     let tuples = entries 1 picks in
@@ -234,7 +238,7 @@ every-list config picks safe is-four short able =
     let stays = still config safe is-four tuples numbered (omega (arith, long)) in
     let between : last config filling ≡ spaceOf config tuples = ap (λ (s : Space). after s filling) fresh ∙ list .1 in
     let end : last config calls ≡ spaceOf config tuples = after-append _ filling reading ∙ ap (λ (s : Space). after s reading) between ∙ after-still (spaceOf config tuples) reading stays in
-    let lists : listAfter config calls ≡ tuples = left config safe is-four calls .lists ∙ sym (left config safe is-four calls .holds) ∙ ap held end ∙ held-of config tuples in (
+    let lists : listAfter config calls ≡ tuples = ap (λ (s : Space). listOf (held s)) end ∙ ap listOf (held-of config tuples) ∙ shared-whole is-four (numbered .shared) in (
       calls,
       record {
         many = ap length lists ∙ long;
@@ -253,8 +257,8 @@ every-list config picks safe is-four short able =
                 turn = turnOf (spaceOf config tuples) call;
                 occurs = turns-behind _ filling reading _ (rw between here);
                 by = refl;
-                shape = numbered .orderly .each i below .shape;
-                at = numbered .orderly .each i below .at;
+                shape = orderly config safe is-four tuples numbered .each i below .shape;
+                at = orderly config safe is-four tuples numbered .each i below .at;
                 told = finds (ap (λ (a : Applied). a .reply .outcome) reads) (ap (λ (a : Applied). a .reply .tuple) reads);
               };
         },

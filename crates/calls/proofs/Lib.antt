@@ -4,7 +4,9 @@ pub mod CallSteps
 pub mod ChangeLaws
 pub mod EffectLaws
 pub mod Effects
+pub mod EveryHelpLaws
 pub mod EveryListLaws
+pub mod HelpingLaws
 pub mod JustifiedLaws
 pub mod Keys
 pub mod ListSteps

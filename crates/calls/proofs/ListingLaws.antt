@@ -1,56 +1,65 @@
--- What policy 4 makes of every list of calls: a list in the order of its positions that only grows, and that every process can go on with. From what one
--- call does.
+-- What policies 4 and 5 make of every list of calls: a list in the order of its positions that only grows, and that every process can go on with. From what
+-- one call does.
 use mathlib.Core.Path.{_≡_, refl, sym, ap, _∙_, subst}
 use mathlib.Core.Logic.{_⊎_, inl, inr, ⊎-elim}
 use Prim.Native.Nat.{ℕ, zero, suc, _+_, _-_, _≤_, _<_}
 use native.Mathlib.Omega.{arith}
-use mathlib.Core.Bool.{true, false}
-use mathlib.Core.List.{List, [], _∷_, _++_, List·Memᴰ, List·Memᴰ·head, List·Memᴰ·tail, List·Memᴰ·not-nil}
+use mathlib.Core.Bool.{true, false, and-eq-true-iff}
+use mathlib.Core.List.{List, [], _∷_, _++_, append-nil, append-assoc, List·Memᴰ, List·Memᴰ·head, List·Memᴰ·tail, List·Memᴰ·not-nil, List·Memᴰ·append-cases, List·Memᴰ·eq-of-singleton}
 use lib.ListN.{length, getD}
+use lib.Seq.{append-snoc}
 use lib.Dec.{leb, eqb}
-use borrow.Author.Tests.{eqb-true, eqb-false, lt-ltb, le-leb}
+use borrow.Author.Tests.{eqb-true, eqb-false, lt-ltb, le-leb, eq-eqb, ne-eqb}
 use borrow.Table.Steps.{cases}
 use Rattle.calls.specs.declared.turn.Applied.{Applied}
 use Rattle.calls.specs.Effects.{effect}
 use Rattle.calls.specs.Laws.{Asked}
-use Rattle.calls.specs.ListLaws.{ListingRules, ListAlones, ListGrows, NextListed, TakenRule, HandedIns}
-use Rattle.calls.specs.Lists.{listOf, listAfter, listCas, OwnCas}
+use Rattle.calls.specs.ListLaws.{ListingRules, ListAlones, ListGrows, AnnouncingRules, NextListed, NextDues, NextAnnounced, TakenRule, HandedIns}
+use Rattle.calls.specs.Lists.{listOf, listAfter, listFor, listCas, announceOut, OwnCas, ListedBy}
 use Rattle.calls.specs.Turns.{applied, turnsFrom, turns, lastOf, after, last}
 use Rattle.calls.proofs.CallLaws.{denied-rule, permitted-applied, cas-rules}
 use Rattle.calls.proofs.ChangeLaws.{carried-rules}
-use Rattle.calls.proofs.Effects.{no-inp}
-use Rattle.calls.proofs.ListSteps.{Entry, Orderly, orderly-none, orderly-few, orderly-all, Put, list-advance, list-keeps}
-use Rattle.calls.proofs.RunSteps.{Run, held-run, run-formed, fresh-space, fresh-run, after-run}
-use Rattle.calls.proofs.SumLaws.{nothing-leaves}
-use Rattle.calls.proofs.Walks.{kept-after}
+use Rattle.calls.proofs.ListSteps.{listed-mem, mem-listed, Entry, Orderly, orderly-few, orderly-all, Kind, announcement-other, key, apart-differ, Shared, shared-none, shared-few, Lists, Grown, list-advance, list-keeps}
+use Rattle.calls.proofs.RunSteps.{Run, held-run, fresh-space, fresh-run, after-run}
+use Rattle.calls.proofs.SumLaws.{after-append}
+use Rattle.calls.proofs.Walks.{kept-after, turns-behind}
 use Rattle.policy.specs.declared.verdicts.Verdict.the-variants.{Permit}
-use Rattle.policy.specs.Listing.{isListTemplate, listTemplate, positions, isListCall, isNew, begins, follows, mayList, shared}
+use Rattle.policy.specs.Laws.{ListCall, Helps, Alone}
 use Rattle.policy.specs.Laws.Denial.{denied}
+use Rattle.policy.specs.Listing.{isListTemplate, listTemplate, positions, preferred, owed, isDue, isListCall, isNew, begins, follows, mayList, shared}
 use Rattle.policy.specs.Policies.{verdictOn}
-use Rattle.policy.proofs.ListingLaws.{list-template, list-match, match-list, list-rule, list-denied}
+use Rattle.policy.proofs.AnnouncingLaws.{lists-five, announce-rule, due-rule}
+use Rattle.policy.proofs.ListingLaws.{list-template, list-match, match-list, cas-permitted, nothing-owed, list-denied}
 use Rattle.policy.proofs.PolicyLaws.{under-shared}
 use Rattle.space.specs.declared.config.Config.{Config}
 use Rattle.space.specs.declared.space.Space.{Space}
-use Rattle.space.specs.Configs.{sound}
-use Rattle.space.specs.Lists.{isListTuple, listTuple, lists, isThere, isFilled, isListed, Filled, Listed}
+use Rattle.space.specs.Announcements.{isAnnouncement, announcerOf, announcement, Announcing, Oldest}
+use Rattle.space.specs.Configs.{sound, hasList}
+use Rattle.space.specs.Lists.{isListTuple, listTuple, positionOf, serialOf, shiftCode, lists, isThere, isFilled, isListed, Filled, Listed}
+use Rattle.space.specs.Shapes.{processOf}
 use Rattle.space.specs.Spaces.{held, spaceOf, wellFormed}
-use Rattle.space.proofs.ConfigLaws.{sound-range}
+use Rattle.space.proofs.AnnouncementLaws.{announcement-parts, announcement-rule}
+use Rattle.space.proofs.ConfigLaws.{sound-range, has-list-rule}
 use Rattle.space.proofs.ListLaws.{list-tuple}
-use Rattle.space.proofs.SpaceRules.{Lawful, held-of, formed-of, stands}
+use Rattle.space.proofs.ShapeLaws.{small-code}
+use Rattle.space.proofs.SpaceRules.{Lawful, held-of, formed-of, stands, place}
 use Rattle.tuple.specs.declared.fault.Fault.the-variants.{Absent}
 use Rattle.tuple.specs.declared.field.Tuple.{Tuple}
 use Rattle.tuple.specs.declared.field.Call.{Call}
 use Rattle.tuple.specs.declared.matching.Found.the-variants.{At, Nowhere}
-use Rattle.tuple.specs.declared.reply.Outcome.the-variants.{Inserted, Held, Refused}
+use Rattle.tuple.specs.declared.reply.Outcome.the-variants.{Done, Inserted, Held, Refused}
 use Rattle.tuple.specs.Bounds.{capacity, largestCount, largestCode}
-use Rattle.tuple.specs.Faults.{callFault, usedFault, usesTemplate, usesEntry, partFault, tupleFault, fieldsFault, fieldFault, knownHead, restBlank, restFrom, placeBlank, isBlank}
-use Rattle.tuple.specs.Fields.{rdp, cas, largestOf, blankTuple}
+use Rattle.tuple.specs.Faults.{isEntry, callFault, usedFault, usesTemplate, usesEntry, partFault, tupleFault, fieldsFault, fieldFault, knownHead, restBlank, restFrom, placeBlank, isBlank}
+use Rattle.tuple.specs.Fields.{cas, count, defined, largestOf, blankTuple}
 use Rattle.tuple.specs.Matching.{oldestOf, matches}
 use Rattle.tuple.specs.Offsets.{bottom}
 use Rattle.tuple.specs.Refusals.{refusal}
+use Rattle.tuple.specs.Shapes.{field, is}
+use Rattle.tuple.proofs.FieldLaws.{kind-state}
 use Rattle.tuple.proofs.MatchRules.{oldest-rule}
+use Rattle.tuple.proofs.NoFault.{entry-small}
 
--- ---- the list is all that is held
+-- ---- the list is all that is held under policy 4
 
 all-listed : (tuples : List Tuple) → ((tuple : Tuple) → List·Memᴰ tuple tuples → isListTuple tuple ≡ true) → listOf tuples ≡ tuples
 unfolding listOf
@@ -58,94 +67,176 @@ all-listed [] each = refl
 all-listed (tuple ∷ tuples) each =
     rw (each tuple (List·Memᴰ·head refl)) (ap (λ (l : List Tuple). tuple ∷ l) (all-listed tuples (λ t m. each t (List·Memᴰ·tail m))))
 
-pub orderly-list : {tuples : List Tuple} → Orderly tuples → listOf tuples ≡ tuples
-orderly-list {tuples} orderly = all-listed tuples (λ tuple m. orderly-all orderly tuple m .3 .shape)
+kind-listed : {config : Config} {tuple : Tuple} → config .policy ≡ 4 → Kind config tuple → isListTuple tuple ≡ true
+kind-listed is-four (Kind.in-list shape first most) = shape
+kind-listed is-four (Kind.waits five shape some few) = absurd (omega arith)
+
+pub shared-whole : {config : Config} {tuples : List Tuple} → config .policy ≡ 4 → Shared config tuples → listOf tuples ≡ tuples
+shared-whole {tuples = tuples} is-four shared = all-listed tuples (λ tuple m. kind-listed is-four (shared .each tuple m))
 
 -- ---- the tuples that a run leaves
 
 pub record Left (config : Config) (calls : List Call) : Type 0 where
   pub tuples : List Tuple
-  pub orderly : Orderly tuples
+  pub shared : Shared config tuples
+  pub lawful : Lawful tuples
   pub space : last config calls ≡ spaceOf config tuples
   pub holds : held (last config calls) ≡ tuples
-  pub lists : listAfter config calls ≡ tuples
+  pub lists : listAfter config calls ≡ listOf tuples
 
-module _ (config : Config) (safe : sound config ≡ true) (is-four : config .policy ≡ 4) where
+-- why an entry was due
+due-by : (config : Config) (tuples : List Tuple) (call : Call) → hasList config ≡ true → Lists config tuples call
+    → (call .process ≡ processOf (call .entry)) ⊎ ((config .policy ≡ 5) × Oldest tuples (processOf (call .entry)) (serialOf (call .entry)) (shiftCode (call .entry)))
+due-by config tuples call lists put =
+    ⊎-elim
+    (λ four. inl (sym (eqb-true _ _ (sym (nothing-owed config tuples call four) ∙ put .due))))
+    (λ five. ⊎-elim
+    (λ (helps : Helps config tuples call). inr (five, rw (helps .by) (helps .oldest)))
+    (λ (alone : Alone config tuples call). inl (sym (alone .own)))
+    (due-rule config tuples call five (put .list) .0 (put .due)))
+    (has-list-rule config .0 lists)
+
+module _ (config : Config) (safe : sound config ≡ true) (shares : hasList config ≡ true) where
   pub left : (calls : List Call) → Left config calls
   left calls =
-      let run = kept-after config Orderly (list-keeps config is-four) calls [] orderly-none in
+      let run = kept-after config (Shared config) (list-keeps config safe shares) calls [] (shared-none config) in
       let space : last config calls ≡ spaceOf config (run .0) = ap (λ (s : Space). after s calls) (fresh-space config safe) ∙ run .2 in
       let holds : held (last config calls) ≡ run .0 = ap held space ∙ held-of config (run .0) in
-      record { tuples = run .0; orderly = run .1; space = space; holds = holds; lists = ap listOf holds ∙ orderly-list (run .1) }
+      let early = after-run calls (fresh-run config safe) in
+      record {
+        tuples = run .0;
+        shared = run .1;
+        lawful = subst Lawful (sym (held-run early) ∙ holds) (early .lawful);
+        space = space;
+        holds = holds;
+        lists = ap listOf holds;
+      }
 
-  -- each tuple was there at the start, or was inserted by its own process
-  own-from : (calls : List Call) (tuples : List Tuple) → Orderly tuples → (tuple : Tuple) → List·Memᴰ tuple (held (after (spaceOf config tuples) calls))
-      → List·Memᴰ tuple tuples ⊎ OwnCas (turnsFrom (spaceOf config tuples) calls) tuple
+  -- each list tuple was there at the start, or was inserted, and was due
+  by-from : (all before rest : List Call) (tuples : List Tuple) → last config before ≡ spaceOf config tuples → all ≡ before ++ rest → Shared config tuples
+      → ((tuple : Tuple) → List·Memᴰ tuple (listOf tuples) → ListedBy config all tuple)
+      → (tuple : Tuple) → List·Memᴰ tuple (listOf (held (after (spaceOf config tuples) rest))) → ListedBy config all tuple
   unfolding lastOf turnsFrom
-  own-from [] tuples orderly tuple m = inl (rw (held-of config tuples) at m)
-  own-from (call ∷ calls) tuples orderly tuple m =
-      let step = list-advance config is-four tuples orderly call in
-      let next = step .keeps .next in
-      let later = own-from calls next (step .keeps .kept) tuple (rw (step .keeps .space) at m) in
-      ⊎-elim
-      (λ (here : List·Memᴰ tuple next).
-      ⊎-elim (λ (old : List·Memᴰ tuple tuples). inl old)
-      (λ (new : Put config tuples call tuple). inr (record {
-        turn = record { call = call; reply = applied (spaceOf config tuples) call .reply; space = applied (spaceOf config tuples) call .space };
-        occurs = List·Memᴰ·head refl;
-        code = new .code;
-        entry = new .entry;
-        own = new .own;
-        inserted = new .inserted;
-      }))
-      (step .from tuple here))
-      (λ (own : OwnCas (turnsFrom (spaceOf config next) calls) tuple). inr (record {
-        turn = own .turn;
-        occurs = List·Memᴰ·tail (rw (step .keeps .space) (own .occurs));
-        code = own .code;
-        entry = own .entry;
-        own = own .own;
-        inserted = own .inserted;
-      }))
-      later
+  by-from all before [] tuples here split keeps told tuple m = told tuple (rw (held-of config tuples) at m)
+  by-from all before (call ∷ rest) tuples here split keeps told tuple m =
+      let step = list-advance config safe shares tuples keeps call in
+      by-from all (before ++ (call ∷ [])) rest (step .keeps .next)
+      (after-append _ before (call ∷ []) ∙ ap (λ (s : Space). applied s call .space) here ∙ step .keeps .space)
+      (split ∙ sym (append-snoc before call rest)) (step .keeps .kept) (further (step .grown)) tuple (rw (step .keeps .space) at m)
+    where
+      further : Grown config tuples call (list-advance config safe shares tuples keeps call .keeps .next)
+          → (tuple : Tuple) → List·Memᴰ tuple (listOf (list-advance config safe shares tuples keeps call .keeps .next)) → ListedBy config all tuple
+      further (Grown.stays other unchanged) t old = told t (rw unchanged at old)
+      further (Grown.grows put longer) t m′ =
+          ⊎-elim (λ (old : List·Memᴰ t (listOf tuples)). told t old)
+          (λ (new : List·Memᴰ t (call .entry ∷ [])).
+          subst (ListedBy config all) (sym (List·Memᴰ·eq-of-singleton new)) (record {
+            before = before;
+            call = call;
+            behind = rest;
+            split = split;
+            code = put .code;
+            entry = refl;
+            inserted = rw here (put .inserted);
+            by = rw (here, held-of config tuples) (due-by config tuples call shares put);
+          }))
+          (List·Memᴰ·append-cases (listOf tuples) (rw longer at m′))
 
-  own-cas : (calls : List Call) (tuple : Tuple) → List·Memᴰ tuple (held (last config calls)) → OwnCas (turns config calls) tuple
-  unfolding turns
-  own-cas calls tuple m =
+  listed-by : (calls : List Call) (tuple : Tuple) → List·Memᴰ tuple (listAfter config calls) → ListedBy config calls tuple
+  unfolding lastOf turnsFrom listOf
+  listed-by calls tuple m =
       let fresh = fresh-space config safe in
-      rw fresh (⊎-elim (λ none. absurd (List·Memᴰ·not-nil none)) (λ own. own) (own-from calls [] orderly-none tuple (rw fresh at m)))
+      by-from calls [] calls [] fresh refl (shared-none config) (λ t none. absurd (List·Memᴰ·not-nil none)) tuple (rw fresh at m)
 
 pub listing-rules : ListingRules
-listing-rules config calls safe is-four =
-    let end = left config safe is-four calls in
-    let orderly = end .orderly in
+unfolding key
+listing-rules config calls safe shares =
+    let end = left config safe shares calls in
+    let tuples = end .tuples in
+    let orderly = end .shared .list in
+    -- two list tuples of one position stand at one place
+    let apart : (i j : ℕ) → i < length tuples → j < length tuples → isListTuple (getD tuples i blankTuple) ≡ true → isListTuple (getD tuples j blankTuple) ≡ true
+    → positionOf (getD tuples i blankTuple) ≡ positionOf (getD tuples j blankTuple) → i ≡ j =
+    λ i j a b p q same. apart-differ tuples (end .shared .apart) i j a b (rw (p, q) same) in
     record {
       in-order = rw (end .lists) (λ i h. orderly .each i h .at);
       few = rw (end .lists) (orderly-few orderly);
-      one-position = rw (end .holds) (λ i j a b p q same. omega (arith, same, orderly .each i a .at, orderly .each j b .at));
-      one-serial = rw (end .holds) (λ i j a b p q process serial. orderly .serials i j a b (process, serial));
-      some = λ tuple m p. orderly-all orderly tuple (rw (end .holds) at m) .3 .some;
+      one-position = rw (end .holds) apart;
+      one-serial = rw (end .holds) (λ i j a b p q process serial.
+          let first = orderly-all orderly _ (mem-listed tuples (stands tuples i a) p) in
+          let second = orderly-all orderly _ (mem-listed tuples (stands tuples j b) q) in
+          let same = orderly .serials (first .0) (second .0) (first .1) (second .1)
+          (ap processOf (first .2) ∙ process ∙ sym (ap processOf (second .2)), ap serialOf (first .2) ∙ serial ∙ sym (ap serialOf (second .2))) in
+          apart i j a b p q (first .3 .at ∙ ap (λ (k : ℕ). k + 1) same ∙ sym (second .3 .at)));
+      some = λ tuple m p. orderly-all orderly tuple (mem-listed tuples (rw (end .holds) at m) p) .3 .some;
+      listed-by = λ tuple m p. listed-by config safe shares calls tuple (mem-listed (held (last config calls)) m p);
+    }
+
+pub announcing-rules : AnnouncingRules
+unfolding key
+announcing-rules config calls safe five =
+    let end = left config safe (lists-five config five) calls in
+    let tuples = end .tuples in
+    record {
+      only = λ tuple m. only (end .shared .each tuple (rw (end .holds) at m));
+      one = rw (end .holds) (λ i j a b p q same.
+          apart-differ tuples (end .shared .apart) i j a b (rw (announcement-other _ p, announcement-other _ q, same) refl));
+    }
+  where
+    only : {tuple : Tuple} → Kind config tuple → (isListTuple tuple ≡ true) ⊎ ((isAnnouncement tuple ≡ true) × (1 ≤ announcerOf tuple) × (announcerOf tuple ≤ config .n))
+    only (Kind.in-list shape first most) = inl shape
+    only (Kind.waits is shape some few) = inr (shape, some, few)
+
+-- what its own process put
+own-cas : (config : Config) (calls : List Call) (tuple : Tuple) → config .policy ≡ 4 → ListedBy config calls tuple → OwnCas (turns config calls) tuple
+unfolding turns turnsFrom
+own-cas config calls tuple is-four by =
+    record {
+      turn = record { call = by .call; reply = applied (last config (by .before)) (by .call) .reply; space = applied (last config (by .before)) (by .call) .space };
+      occurs = rw (by .split) (turns-behind _ (by .before) (by .call ∷ by .behind) _ (List·Memᴰ·head refl));
+      code = by .code;
+      entry = by .entry;
+      own = ⊎-elim (λ e. e) (λ five. absurd (omega (arith, five .0))) (by .by);
+      inserted = by .inserted;
     }
 
 pub list-alones : ListAlones
 list-alones config calls safe is-four =
-    let end = left config safe is-four calls in
+    let shares = has-list-rule config .1 (inl is-four) in
+    let end = left config safe shares calls in
+    let whole = shared-whole is-four (end .shared) in
     record {
-      only = λ tuple m. orderly-all (end .orderly) tuple (rw (end .holds) at m) .3 .shape;
-      whole = end .lists ∙ sym (end .holds);
-      own-cas = λ tuple m p. own-cas config safe is-four calls tuple m;
+      only = λ tuple m. kind-listed is-four (end .shared .each tuple (rw (end .holds) at m));
+      whole = end .lists ∙ whole ∙ sym (end .holds);
+      own-cas = λ tuple m p. own-cas config calls tuple is-four (listed-by config safe shares calls tuple (mem-listed (held (last config calls)) m p));
     }
 
+-- ---- the list only grows
+
+module _ (config : Config) (safe : sound config ≡ true) (shares : hasList config ≡ true) where
+  pub grown-from : (calls : List Call) (tuples : List Tuple) → Shared config tuples → (more : List Tuple) × (listOf (held (after (spaceOf config tuples) calls)) ≡ listOf tuples ++ more)
+  unfolding lastOf turnsFrom
+  grown-from [] tuples keeps = ([], ap listOf (held-of config tuples) ∙ sym (append-nil (listOf tuples)))
+  grown-from (call ∷ calls) tuples keeps =
+      let step = list-advance config safe shares tuples keeps call in
+      let later = grown-from calls (step .keeps .next) (step .keeps .kept) in
+      rw (step .keeps .space) (join _ (step .grown) (later .0) (later .1))
+    where
+      join : {next : List Tuple} (end : List Tuple) → Grown config tuples call next → (more : List Tuple) → listOf end ≡ listOf next ++ more → (all : List Tuple) × (listOf end ≡ listOf tuples ++ all)
+      join end (Grown.stays other unchanged) more e = (more, e ∙ ap (λ (l : List Tuple). l ++ more) unchanged)
+      join end (Grown.grows put longer) more e = (call .entry ∷ more, e ∙ ap (λ (l : List Tuple). l ++ more) longer ∙ append-snoc (listOf tuples) (call .entry) more)
+
 pub list-grows : ListGrows
-list-grows config before calls safe is-four =
-    let grown = nothing-leaves config before calls (no-inp config (omega arith)) in
-    let early = left config safe is-four before in
-    let late = left config safe is-four (before ++ calls) in
-    (grown .0, late .lists ∙ sym (late .holds) ∙ grown .1 ∙ ap (λ (l : List Tuple). l ++ grown .0) (early .holds ∙ sym (early .lists)))
+list-grows config before calls safe shares =
+    let early = left config safe shares before in
+    let grown = grown-from config safe shares calls (early .tuples) (early .shared) in (
+      grown .0,
+      ap (λ (s : Space). listOf (held s)) (after-append _ before calls ∙ ap (λ (s : Space). after s calls) (early .space)) ∙ grown .1 ∙ ap (λ (l : List Tuple). l ++ grown .0) (sym (early .lists)),
+    )
 
 -- ---- going on with it
 
--- the oldest that matches the template of a position is the tuple there
+-- the oldest that matches the template of a position is the tuple there, where only list tuples stand
 pub list-found : {tuples : List Tuple} → Orderly tuples → (i : ℕ) → i < length tuples → oldestOf tuples (listTemplate (i + 1)) ≡ At i
 list-found {tuples} orderly i h =
     let template = listTemplate (i + 1) in
@@ -160,18 +251,26 @@ list-found {tuples} orderly i h =
           (λ e. e),
     )
 
-list-faultless : (process position serial code : ℕ) → process ≤ largestCount → position ≤ largestCount → serial ≤ largestCount → code ≤ largestCode
-    → callFault (listCas process position serial code) ≡ Absent
+list-faultless : (caller position process serial code : ℕ) → position ≤ largestCount → process ≤ largestCount → serial ≤ largestCount → code ≤ largestCode
+    → callFault (listFor caller position process serial code) ≡ Absent
 unfolding callFault usedFault usesTemplate usesEntry partFault tupleFault fieldsFault fieldFault knownHead largestOf restBlank restFrom placeBlank isBlank
-list-faultless process position serial code p q s c =
-    rw (le-leb process largestCount p, le-leb position largestCount q, le-leb serial largestCount s, le-leb code largestCode c)
+list-faultless caller position process serial code q p s c =
+    rw (le-leb position largestCount q, le-leb process largestCount p, le-leb serial largestCount s, le-leb code largestCode c)
 
--- a cas of 1 to n on a list in order, of a shift, at a position that is filled or the next
-module _ (config : Config) (safe : sound config ≡ true) (is-four : config .policy ≡ 4) (tuples : List Tuple) (orderly : Orderly tuples) (lawful : Lawful tuples)
-    (process position serial code : ℕ) (first : 1 ≤ position) (near : position ≤ length tuples + 1) (short : position ≤ positions)
-    (one : 1 ≤ process) (most : process ≤ config .n) (small : serial ≤ largestCount) (some : code ≡ bottom → ⊥) (inside : code ≤ largestCode) where
+-- a template of five fields matches no announcement
+five-other : (position : ℕ) (tuple : Tuple) → isAnnouncement tuple ≡ true → matches (listTemplate position) tuple ≡ false
+unfolding matches
+five-other position tuple shape =
+    cases (matches (listTemplate position) tuple)
+    (λ e. let same : tuple .count ≡ 5 = eqb-true _ _ (and-eq-true-iff (eqb (tuple .count) 5) _ .0 e .0) in absurd (omega (arith, announcement-parts tuple shape .counted)))
+    (λ e. e)
+
+-- a cas of 1 to n on such tuples, of a shift, at a position that is filled or the next
+module _ (config : Config) (safe : sound config ≡ true) (shares : hasList config ≡ true) (tuples : List Tuple) (keeps : Shared config tuples) (lawful : Lawful tuples)
+    (caller position process serial code : ℕ) (first : 1 ≤ position) (near : position ≤ length (listOf tuples) + 1) (short : position ≤ positions)
+    (one : 1 ≤ caller) (most : caller ≤ config .n) (low : process ≤ largestCount) (small : serial ≤ largestCount) (some : code ≡ bottom → ⊥) (inside : code ≤ largestCode) where
   abbrev call : Call
-  call = listCas process position serial code
+  call = listFor caller position process serial code
 
   abbrev space : Space
   space = spaceOf config tuples
@@ -180,7 +279,7 @@ module _ (config : Config) (safe : sound config ≡ true) (is-four : config .pol
   formed = formed-of config tuples safe lawful
 
   faultless : callFault call ≡ Absent
-  faultless = let range = sound-range config safe in list-faultless process position serial code (omega arith) (omega arith) small inside
+  faultless = list-faultless caller position process serial code (omega arith) low small inside
 
   one-before : (position ≡ 1) ⊎ Filled tuples (position - 1)
   one-before =
@@ -188,27 +287,22 @@ module _ (config : Config) (safe : sound config ≡ true) (is-four : config .pol
       (λ e. inl (eqb-true position 1 e))
       (λ e. let i = position - 1 - 1 in
       let other = eqb-false position 1 e in
-      let below : i < length tuples = omega (arith, other) in
-      let at = orderly .each i below in
-      inr (record { tuple = getD tuples i blankTuple; stands = stands tuples i below; shape = at .shape; at = omega (arith, at .at, other) }))
+      let below : i < length (listOf tuples) = omega (arith, other) in
+      let at = keeps .list .each i below in
+      inr (record { tuple = getD (listOf tuples) i blankTuple; stands = listed-mem tuples (stands (listOf tuples) i below) .0; shape = at .shape; at = omega (arith, at .at, other) }))
 
-  -- permitted exactly where its process and serial are not listed
-  permitted : (Listed tuples process serial → ⊥) → verdictOn config tuples call ≡ Permit
-  permitted unlisted =
-      list-rule config tuples call is-four .1 (inr (
-        refl,
-        record {
-          template = list-template position;
-          entry = list-tuple position process serial code;
-          same = refl;
-          first = first;
-          most = short;
-          some = some;
-          unlisted = unlisted;
-          follows = one-before;
-        },
-        refl,
-      ))
+  pub list-call : (Listed tuples process serial → ⊥) → ListCall tuples call
+  list-call unlisted =
+      record {
+        template = list-template position;
+        entry = list-tuple position process serial code;
+        same = refl;
+        first = first;
+        most = short;
+        some = some;
+        unlisted = unlisted;
+        follows = one-before;
+      }
 
   pub listed-denied : Listed tuples process serial → applied space call .reply .outcome ≡ Refused (refusal 7)
   listed-denied listed =
@@ -217,76 +311,153 @@ module _ (config : Config) (safe : sound config ≡ true) (is-four : config .pol
         formed = formed;
         sound = faultless;
         known = (one, most);
-        forbidden = rw (held-of config tuples) (list-denied config tuples call is-four (λ p.
-            ⊎-elim (λ r. let z : cas ≡ rdp = r in omega arith) (λ q. q .1 .unlisted listed) (list-rule config tuples call is-four .0 p)));
+        forbidden = rw (held-of config tuples) (list-denied config tuples call shares (λ p. cas-permitted config tuples call shares refl .0 p .0 .unlisted listed));
       })
 
-  pub asked : (Listed tuples process serial → ⊥) → Asked space call
-  asked unlisted = record { formed = formed; sound = faultless; known = (one, most); code = refl; permitted = rw (held-of config tuples) (permitted unlisted) }
+  module _ (unlisted : Listed tuples process serial → ⊥) (due : isDue config tuples call ≡ true) where
+    pub asked : Asked space call
+    asked =
+        record {
+          formed = formed;
+          sound = faultless;
+          known = (one, most);
+          code = refl;
+          permitted = rw (held-of config tuples) (cas-permitted config tuples call shares refl .1 (list-call unlisted, due));
+        }
 
-  module _ (unlisted : Listed tuples process serial → ⊥) where
     -- the next entry is inserted behind the last
-    unmatched : position ≡ length tuples + 1 → oldestOf tuples (listTemplate position) ≡ Nowhere
+    unmatched : position ≡ length (listOf tuples) + 1 → oldestOf tuples (listTemplate position) ≡ Nowhere
     unmatched next =
-        oldest-rule .nowhere tuples (listTemplate position) .1 (λ j h.
-        let at = orderly .each j h in
-        cases (matches (listTemplate position) (getD tuples j blankTuple))
-        (λ e. absurd (omega (arith, at .at, match-list (listTemplate position) (getD tuples j blankTuple) (list-template position) (at .shape) e)))
-        (λ e. e))
+        oldest-rule .nowhere tuples (listTemplate position) .1 (λ j h. missed (getD tuples j blankTuple) (stands tuples j h) (keeps .each _ (stands tuples j h)))
+      where
+        missed : (tuple : Tuple) → List·Memᴰ tuple tuples → Kind config tuple → matches (listTemplate position) tuple ≡ false
+        missed tuple m (Kind.in-list shape low′ high) =
+            let at = orderly-all (keeps .list) tuple (mem-listed tuples m shape) in
+            cases (matches (listTemplate position) tuple)
+            (λ e. absurd (omega (arith, at .1, at .3 .at, match-list (listTemplate position) tuple (list-template position) shape e)))
+            (λ e. e)
+        missed tuple m (Kind.waits five shape some′ few) = five-other position tuple shape
 
-    pub next-inserted : position ≡ length tuples + 1 → applied space call .reply .outcome ≡ Inserted
-    next-inserted next = cas-rules space call (asked unlisted) .inserted (rw (held-of config tuples) (unmatched next)) (rw (held-of config tuples) (omega arith))
+    pub next-inserted : position ≡ length (listOf tuples) + 1 → applied space call .reply .outcome ≡ Inserted
+    next-inserted next = cas-rules space call asked .inserted (rw (held-of config tuples) (unmatched next)) (rw (held-of config tuples) (shared-few safe keeps))
 
-    pub next-space : position ≡ length tuples + 1 → applied space call .space ≡ spaceOf config (tuples ++ (listTuple position process serial code ∷ []))
+    pub next-space : position ≡ length (listOf tuples) + 1 → applied space call .space ≡ spaceOf config (tuples ++ (listTuple position process serial code ∷ []))
     unfolding effect
     next-space next =
-        ap (λ (a : Applied). a .space) (permitted-applied space call formed faultless (one, most) (asked unlisted .permitted))
-        ∙ rw (held-of config tuples, unmatched next, lt-ltb (length tuples) capacity (omega arith)) (carried-rules config tuples (call .entry) .append (omega arith))
+        ap (λ (a : Applied). a .space) (permitted-applied space call formed faultless (one, most) (asked .permitted))
+        ∙ rw (held-of config tuples, unmatched next, lt-ltb (length tuples) capacity (shared-few safe keeps)) (carried-rules config tuples (call .entry) .append (shared-few safe keeps))
 
-    -- what is filled is held
-    pub taken-held : position ≤ length tuples → applied space call .reply ≡ record { outcome = Held; tuple = getD tuples (position - 1) blankTuple }
-    taken-held filled =
-        let i = position - 1 in
-        let at = list-found orderly i (omega arith) in
-        let same : i + 1 ≡ position = omega arith in
-        rw (held-of config tuples) at (cas-rules space call (asked unlisted) .held-there i (rw (held-of config tuples) (ap (λ (p : ℕ). oldestOf tuples (listTemplate p)) (sym same) ∙ at)))
+own-true : (process : ℕ) → eqb process process ≡ true
+own-true process = eq-eqb process process refl
 
-module _ (config : Config) (safe : sound config ≡ true) (is-four : config .policy ≡ 4) (calls : List Call) where
-  -- what a run leaves is lawful
-  left-lawful : Lawful (left config safe is-four calls .tuples)
-  left-lawful =
-      let run = after-run calls (fresh-run config safe) in
-      let same : run .tuples ≡ left config safe is-four calls .tuples = sym (held-run run) ∙ left config safe is-four calls .holds in
-      subst Lawful same (run .lawful)
+-- a count of an entry is at most the largest
+count-small : (tuple : Tuple) (i : ℕ) → isEntry tuple ≡ true → i < tuple .count → is count defined (field tuple i) ≡ true → field tuple i .value ≤ largestCount
+unfolding largestOf
+count-small tuple i entry below shape =
+    let head = kind-state count defined (field tuple i) shape in
+    rw (head .0) at (entry-small tuple i entry below (eq-eqb _ _ (head .1)))
+
+-- ---- policy 4: what is filled is held
 
 pub next-listed : NextListed
 next-listed config calls process serial code safe is-four room one most small unlisted some inside =
-    let end = left config safe is-four calls in
-    let long : length (listAfter config calls) ≡ length (end .tuples) = ap length (end .lists) in
-    rw (end .lists, end .space) (next-inserted config safe is-four (end .tuples) (end .orderly) (left-lawful config safe is-four calls) process (length (end .tuples) + 1) serial code
-    (omega arith) (omega arith) (omega arith) one most small some inside (rw (end .holds) at unlisted) refl)
+    let shares = has-list-rule config .1 (inl is-four) in
+    let end = left config safe shares calls in
+    let long : length (listAfter config calls) ≡ length (listOf (end .tuples)) = ap length (end .lists) in
+    let range = sound-range config safe in
+    rw (end .lists, end .space) (next-inserted config safe shares (end .tuples) (end .shared) (end .lawful) process (length (listOf (end .tuples)) + 1) process serial code
+    (omega arith) (omega arith) (omega arith) one most (omega arith) small some inside (rw (end .holds) at unlisted) (nothing-owed config (end .tuples) _ is-four ∙ own-true process) refl)
 
 pub taken-rule : TakenRule
 taken-rule config calls process position serial code safe is-four first filled one most small some inside =
-    let end = left config safe is-four calls in
-    let long : length (listAfter config calls) ≡ length (end .tuples) = ap length (end .lists) in
+    let shares = has-list-rule config .1 (inl is-four) in
+    let end = left config safe shares calls in
     let tuples = end .tuples in
-    let few = orderly-few (end .orderly) in
-    let lawful = left-lawful config safe is-four calls in
+    let whole = shared-whole is-four (end .shared) in
+    let long : length (listAfter config calls) ≡ length tuples = ap length (end .lists ∙ whole) in
+    let listed : length (listOf tuples) ≡ length tuples = ap length whole in
+    let few = orderly-few (end .shared .list) in
+    let range = sound-range config safe in
+    let i = position - 1 in
+    let same : i + 1 ≡ position = omega arith in
+    let at : oldestOf tuples (listTemplate position) ≡ At i =
+    ap (λ (p : ℕ). oldestOf tuples (listTemplate p)) (sym same) ∙ list-found (subst Orderly whole (end .shared .list)) i (omega (arith, long)) in
+    let space = spaceOf config tuples in
     record {
-      read = λ unlisted. rw (end .lists, end .space) (taken-held config safe is-four tuples (end .orderly) lawful process position serial code first (omega arith) (omega arith) one most small some inside
-          (rw (end .holds) at unlisted) (omega arith));
-      denied = λ listed. rw (end .space) (listed-denied config safe is-four tuples (end .orderly) lawful process position serial code first (omega arith) (omega arith) one most small some inside
-          (rw (end .holds) at listed));
+      read = λ unlisted.
+          let question = asked config safe shares tuples (end .shared) (end .lawful) process position process serial code first (omega (arith, listed, long)) (omega (arith, listed, long)) one most (omega arith) small some inside
+          (rw (end .holds) at unlisted) (nothing-owed config tuples _ is-four ∙ own-true process) in
+          rw (end .lists, whole, end .space) (rw (held-of config tuples) at (cas-rules space (listCas process position serial code) question .held-there i (rw (held-of config tuples) at)));
+      denied = λ found. rw (end .space) (listed-denied config safe shares tuples (end .shared) (end .lawful) process position process serial code first (omega (arith, listed, long)) (omega (arith, listed, long)) one most (omega arith) small some inside
+          (rw (end .holds) at found));
     }
 
 pub handed-ins : HandedIns
-unfolding shared mayList isListCall isListTemplate isListTuple isNew begins follows isListed isFilled isThere lists
+unfolding shared mayList isListCall isListTemplate isListTuple isNew begins follows isDue owed isListed isFilled isThere lists
 handed-ins config is-four =
     let tuples = listTuple 1 1 1 81 ∷ listTuple 3 9 1 0 ∷ [] in
+    let shares = has-list-rule config .1 (inl is-four) in
+    let other = ne-eqb (config .policy) 5 (λ five. omega arith) in
     record {
-      second = under-shared config tuples (listCas 1 2 2 81) is-four;
-      fourth = under-shared config tuples (listCas 1 4 2 81) is-four;
-      fifth = under-shared config tuples (listCas 1 5 2 81) is-four;
-      again = under-shared config tuples (listCas 9 4 1 81) is-four;
+      second = under-shared config tuples (listCas 1 2 2 81) shares ∙ rw other refl;
+      fourth = under-shared config tuples (listCas 1 4 2 81) shares ∙ rw other refl;
+      fifth = under-shared config tuples (listCas 1 5 2 81) shares ∙ rw other refl;
+      again = under-shared config tuples (listCas 9 4 1 81) shares ∙ rw other refl;
     }
+
+-- ---- policy 5: what is due at the next position
+
+pub next-dues : NextDues
+next-dues config calls caller safe five room one most =
+    let shares = lists-five config five in
+    let end = left config safe shares calls in
+    let tuples = end .tuples in
+    let position = length (listOf tuples) + 1 in
+    let process = preferred (config .n) position in
+    let long : length (listAfter config calls) ≡ length (listOf tuples) = ap length (end .lists) in
+    let range = sound-range config safe in
+    record {
+      helps = λ serial code waiting fresh.
+          let oldest : Oldest tuples process serial code = rw (end .lists, end .holds) at waiting in
+          let unlisted : Listed tuples process serial → ⊥ = rw (end .lists, end .holds) at fresh in
+          let tuple = getD tuples (oldest .at) blankTuple in
+          let parts = announcement-parts tuple (oldest .shape) in
+          let entry = end .lawful .entries tuple (stands tuples (oldest .at) (oldest .inside)) in
+          let low : process ≤ largestCount = rw (oldest .by) at (count-small tuple 1 entry (omega (arith, parts .counted)) (parts .process)) in
+          let small : serial ≤ largestCount = rw (oldest .with-serial) at (count-small tuple 2 entry (omega (arith, parts .counted)) (parts .serial)) in
+          let inside : code ≤ largestCode = rw (oldest .of) at (small-code tuple 3 entry (omega (arith, parts .counted)) (parts .shift)) in
+          let some : code ≡ bottom → ⊥ = λ e. parts .some (oldest .of ∙ e) in
+          let list = list-call config safe shares tuples (end .shared) (end .lawful) caller position process serial code (omega arith) (omega arith) (omega arith) one most low small some inside unlisted in
+          rw (end .lists, end .space) (next-inserted config safe shares tuples (end .shared) (end .lawful) caller position process serial code (omega arith) (omega arith) (omega arith) one most low small some inside unlisted
+          (due-rule config tuples (listFor caller position process serial code) five list .1 (inl (record { by = refl; oldest = oldest }))) refl);
+      alone = λ serial code small some inside fresh free.
+          let unlisted : Listed tuples caller serial → ⊥ = rw (end .holds) at fresh in
+          let list = list-call config safe shares tuples (end .shared) (end .lawful) caller position caller serial code (omega arith) (omega arith) (omega arith) one most (omega arith) small some inside unlisted in
+          rw (end .lists, end .space) (next-inserted config safe shares tuples (end .shared) (end .lawful) caller position caller serial code (omega arith) (omega arith) (omega arith) one most (omega arith) small some inside unlisted
+          (due-rule config tuples (listCas caller position serial code) five list .1 (inr (record { own = refl; free = rw (end .lists, end .holds) at free }))) refl);
+    }
+
+announce-faultless : (process serial code : ℕ) → process ≤ largestCount → serial ≤ largestCount → code ≤ largestCode → callFault (announceOut process serial code) ≡ Absent
+unfolding callFault usedFault usesTemplate usesEntry partFault tupleFault fieldsFault fieldFault knownHead largestOf restBlank restFrom placeBlank isBlank
+announce-faultless process serial code p s c = rw (le-leb process largestCount p, le-leb serial largestCount s, le-leb code largestCode c)
+
+-- an announcement that is permitted stands behind the others
+pub announce-applied : (config : Config) → sound config ≡ true → config .policy ≡ 5 → (tuples : List Tuple) → Shared config tuples → Lawful tuples → (process serial code : ℕ)
+    → 1 ≤ process → process ≤ config .n → serial ≤ largestCount → (code ≡ bottom → ⊥) → code ≤ largestCode → (Announcing tuples process → ⊥)
+    → applied (spaceOf config tuples) (announceOut process serial code)
+    ≡ record { reply = record { outcome = Done; tuple = blankTuple }; space = spaceOf config (tuples ++ (announcement process serial code ∷ [])) }
+unfolding effect
+announce-applied config safe five tuples keeps lawful process serial code one most small some inside none =
+    let call = announceOut process serial code in
+    let range = sound-range config safe in
+    let room = shared-few safe keeps in
+    let shape = announcement-rule (call .entry) process serial code .1 (record { four = refl; first = refl; second = refl; third = refl; fourth = refl; some = some }) .0 in
+    permitted-applied (spaceOf config tuples) call (formed-of config tuples safe lawful) (announce-faultless process serial code (omega arith) small inside) (one, most)
+    (rw (held-of config tuples) (announce-rule config tuples call five refl .1 (record { shape = shape; own = refl; none = none })))
+    ∙ rw (held-of config tuples, lt-ltb (length tuples) capacity room, carried-rules config tuples (call .entry) .append room) refl
+
+pub next-announced : NextAnnounced
+next-announced config calls process serial code safe five one most small some inside none =
+    let end = left config safe (lists-five config five) calls in
+    rw (end .space) (ap (λ (a : Applied). a .reply .outcome)
+    (announce-applied config safe five (end .tuples) (end .shared) (end .lawful) process serial code one most small some inside (rw (end .holds) at none)))

@@ -4,7 +4,7 @@ use mathlib.Core.Logic.{_⊎_, inl, inr, ⊎-elim}
 use Prim.Native.Nat.{ℕ, zero, suc, _+_, _-_, _≤_, _<_}
 use native.Mathlib.Omega.{arith}
 use mathlib.Core.Bool.{true}
-use mathlib.Core.List.{List, [], _∷_, List·Memᴰ, List·Memᴰ·not-nil, List·Memᴰ·cases-cons}
+use mathlib.Core.List.{List, [], _∷_, List·Memᴰ, List·Memᴰ·head, List·Memᴰ·not-nil, List·Memᴰ·cases-cons, Memᴰ·append-left, Memᴰ·append-right}
 use lib.ListN.{length, take, getD, length-take}
 use lib.Seq.{getD-take, ext-getD}
 use lib.Dec.{ltb, eqb}
@@ -14,17 +14,17 @@ use Rattle.calls.specs.declared.effect.Effect.{Effect}
 use Rattle.calls.specs.declared.turn.Applied.{Applied}
 use Rattle.calls.specs.Effects.{appends, rdpEffect, inpEffect, casEffect, effect}
 use Rattle.calls.specs.ListLaws.{ReadRule, SameSum, ShiftSums}
-use Rattle.calls.specs.Lists.{listAfter, Tells, Read, ReadTo, hundredths, shiftSum}
+use Rattle.calls.specs.Lists.{listOf, listAfter, Tells, Read, ReadTo, hundredths, shiftSum}
 use Rattle.calls.specs.Lists.Tells.{finds, holds, inserts}
 use Rattle.calls.specs.Turns.{Turn, applied, turnsFrom, turns, lastOf, after, last}
 use Rattle.calls.proofs.CallSteps.{Steps, steps}
-use Rattle.calls.proofs.ListSteps.{Orderly, orderly-none, orderly-all, list-advance}
-use Rattle.calls.proofs.ListingLaws.{left}
+use Rattle.calls.proofs.ListSteps.{mem-listed, orderly-all, Shared, shared-none, Grown, list-advance}
+use Rattle.calls.proofs.ListingLaws.{left, grown-from}
 use Rattle.calls.proofs.RunSteps.{fresh-space}
 use Rattle.space.specs.declared.config.Config.{Config}
 use Rattle.space.specs.declared.space.Space.{Space}
-use Rattle.space.specs.Configs.{sound}
-use Rattle.space.specs.Lists.{positionOf}
+use Rattle.space.specs.Configs.{sound, hasList}
+use Rattle.space.specs.Lists.{isListTuple}
 use Rattle.space.specs.Spaces.{held, spaceOf}
 use Rattle.space.proofs.SpaceRules.{held-of, stands}
 use Rattle.tuple.specs.declared.field.Tuple.{Tuple}
@@ -101,74 +101,80 @@ steps-show {space} {call} (Steps.obeys formed faultless known p) a = effect-show
 
 -- ---- what was read stands at the end
 
-module _ (config : Config) (is-four : config .policy ≡ 4) where
-  -- what stands stays
-  stays : (calls : List Call) (tuples : List Tuple) → Orderly tuples → (tuple : Tuple) → List·Memᴰ tuple tuples → List·Memᴰ tuple (held (after (spaceOf config tuples) calls))
-  unfolding lastOf turnsFrom
-  stays [] tuples orderly tuple m = rw (held-of config tuples) m
-  stays (call ∷ calls) tuples orderly tuple m =
-      let step = list-advance config is-four tuples orderly call in
-      rw (step .keeps .space) (stays calls (step .keeps .next) (step .keeps .kept) tuple (step .grows tuple m))
+module _ (config : Config) (safe : sound config ≡ true) (shares : hasList config ≡ true) where
+  -- what is listed stays
+  pub stays : (calls : List Call) (tuples : List Tuple) → Shared config tuples → (tuple : Tuple) → List·Memᴰ tuple (listOf tuples)
+      → List·Memᴰ tuple (listOf (held (after (spaceOf config tuples) calls)))
+  stays calls tuples keeps tuple m = let grown = grown-from config safe shares calls tuples keeps in rw (grown .1) (Memᴰ·append-left (grown .0) m)
 
-  -- what a turn on these tuples tells stands behind it
-  told : (tuples : List Tuple) (orderly : Orderly tuples) (call : Call) (turn : Turn) → turn .call ≡ call → turn .reply ≡ applied (spaceOf config tuples) call .reply → (tuple : Tuple)
-      → Tells turn tuple → List·Memᴰ tuple (list-advance config is-four tuples orderly call .keeps .next)
-  told tuples orderly call turn same answered tuple (finds found is) =
-      let step = list-advance config is-four tuples orderly call in
-      let shown = steps-show (steps (spaceOf config tuples) call) (inl (sym (ap (λ (r : Reply). r .outcome) answered) ∙ found)) in
-      let here : applied (spaceOf config tuples) call .reply .tuple ≡ tuple = sym (ap (λ (r : Reply). r .tuple) answered) ∙ is in
-      step .grows tuple (rw (here, held-of config tuples) at shown)
-  told tuples orderly call turn same answered tuple (holds held is) =
-      let step = list-advance config is-four tuples orderly call in
-      let shown = steps-show (steps (spaceOf config tuples) call) (inr (sym (ap (λ (r : Reply). r .outcome) answered) ∙ held)) in
-      let here : applied (spaceOf config tuples) call .reply .tuple ≡ tuple = sym (ap (λ (r : Reply). r .tuple) answered) ∙ is in
-      step .grows tuple (rw (here, held-of config tuples) at shown)
-  told tuples orderly call turn same answered tuple (inserts inserted is) =
-      let step = list-advance config is-four tuples orderly call in
-      let entered = step .enters (sym (ap (λ (r : Reply). r .outcome) answered) ∙ inserted) in
-      let here : call .entry ≡ tuple = sym (ap (λ (c : Call). c .entry) same) ∙ is in
-      subst (λ (t : Tuple). List·Memᴰ t (step .keeps .next)) here entered
+  -- what a turn on these tuples tells is listed behind it
+  module _ (tuples : List Tuple) (keeps : Shared config tuples) (call : Call) (turn : Turn) (same : turn .call ≡ call) (answered : turn .reply ≡ applied (spaceOf config tuples) call .reply)
+      (tuple : Tuple) (shape : isListTuple tuple ≡ true) where
+    abbrev next : List Tuple
+    next = list-advance config safe shares tuples keeps call .keeps .next
 
-  told-stands : (calls : List Call) (tuples : List Tuple) → Orderly tuples → (turn : Turn) → List·Memᴰ turn (turnsFrom (spaceOf config tuples) calls) → (tuple : Tuple)
-      → Tells turn tuple → List·Memᴰ tuple (held (after (spaceOf config tuples) calls))
+    further : Grown config tuples call next → List·Memᴰ tuple (listOf tuples) → List·Memᴰ tuple (listOf next)
+    further (Grown.stays other unchanged) m = rw unchanged m
+    further (Grown.grows put longer) m = rw longer (Memᴰ·append-left (call .entry ∷ []) m)
+
+    entered : Grown config tuples call next → applied (spaceOf config tuples) call .reply .outcome ≡ Inserted → List·Memᴰ (call .entry) (listOf next)
+    entered (Grown.stays other unchanged) e = absurd (other e)
+    entered (Grown.grows put longer) e = rw longer (Memᴰ·append-right (listOf tuples) (List·Memᴰ·head refl))
+
+    shown : Answers (turn .reply .outcome) → turn .reply .tuple ≡ tuple → List·Memᴰ tuple (listOf next)
+    shown answers is =
+        let stood = steps-show (steps (spaceOf config tuples) call) (subst Answers (ap (λ (r : Reply). r .outcome) answered) answers) in
+        let here : applied (spaceOf config tuples) call .reply .tuple ≡ tuple = sym (ap (λ (r : Reply). r .tuple) answered) ∙ is in
+        further (list-advance config safe shares tuples keeps call .grown) (mem-listed tuples (rw (here, held-of config tuples) at stood) shape)
+
+    told : Tells turn tuple → List·Memᴰ tuple (listOf next)
+    told (finds found is) = shown (inl found) is
+    told (holds held is) = shown (inr held) is
+    told (inserts inserted is) =
+        let here : call .entry ≡ tuple = sym (ap (λ (c : Call). c .entry) same) ∙ is in
+        subst (λ (t : Tuple). List·Memᴰ t (listOf next)) here
+        (entered (list-advance config safe shares tuples keeps call .grown) (sym (ap (λ (r : Reply). r .outcome) answered) ∙ inserted))
+
+  told-stands : (calls : List Call) (tuples : List Tuple) → Shared config tuples → (turn : Turn) → List·Memᴰ turn (turnsFrom (spaceOf config tuples) calls) → (tuple : Tuple)
+      → isListTuple tuple ≡ true → Tells turn tuple → List·Memᴰ tuple (listOf (held (after (spaceOf config tuples) calls)))
   unfolding lastOf turnsFrom
-  told-stands [] tuples orderly turn m tuple tells = absurd (List·Memᴰ·not-nil m)
-  told-stands (call ∷ calls) tuples orderly turn m tuple tells =
-      let step = list-advance config is-four tuples orderly call in
-      let next = step .keeps .next in
+  told-stands [] tuples keeps turn m tuple shape tells = absurd (List·Memᴰ·not-nil m)
+  told-stands (call ∷ calls) tuples keeps turn m tuple shape tells =
+      let step = list-advance config safe shares tuples keeps call .keeps in
       ⊎-elim
-      (λ e. let here = told tuples orderly call turn (ap (λ (t : Turn). t .call) e) (ap (λ (t : Turn). t .reply) e) tuple tells in
-      rw (step .keeps .space) (stays calls next (step .keeps .kept) tuple here))
+      (λ e. let here = told tuples keeps call turn (ap (λ (t : Turn). t .call) e) (ap (λ (t : Turn). t .reply) e) tuple shape tells in
+      rw (step .space) (stays calls (step .next) (step .kept) tuple here))
       (λ (later : List·Memᴰ turn (turnsFrom (applied (spaceOf config tuples) call .space) calls)).
-      rw (step .keeps .space) (told-stands calls next (step .keeps .kept) turn (rw (step .keeps .space) at later) tuple tells))
+      rw (step .space) (told-stands calls (step .next) (step .kept) turn (rw (step .space) at later) tuple shape tells))
       (List·Memᴰ·cases-cons m)
 
 pub read-rule : ReadRule
 unfolding turns
-read-rule config calls process position tuple safe is-four read =
-    let end = left config safe is-four calls in
+read-rule config calls process position tuple safe shares read =
+    let end = left config safe shares calls in
     let fresh = fresh-space config safe in
-    let stood : List·Memᴰ tuple (held (last config calls)) =
-    rw fresh (told-stands config is-four calls [] orderly-none (read .turn) (rw fresh at (read .occurs)) tuple (read .told)) in
-    let at = orderly-all (end .orderly) tuple (rw (end .holds) at stood) in
+    let stood : List·Memᴰ tuple (listAfter config calls) =
+    rw fresh (told-stands config safe shares calls [] (shared-none config) (read .turn) (rw fresh at (read .occurs)) tuple (read .shape) (read .told)) in
+    let list = listOf (end .tuples) in
+    let at = orderly-all (end .shared .list) tuple (rw (end .lists) at stood) in
     let here : position ≡ at .0 + 1 = sym (read .at) ∙ at .3 .at in
     let place : position - 1 ≡ at .0 = omega (arith, here) in
-    let lists : length (end .tuples) ≡ length (listAfter config calls) = ap length (sym (end .lists)) in
+    let long : length list ≡ length (listAfter config calls) = ap length (sym (end .lists)) in
     record {
       first = omega (arith, here);
-      filled = omega (arith, here, at .1, lists);
-      stands = ap (λ (l : List Tuple). getD l (position - 1) blankTuple) (end .lists) ∙ ap (λ (i : ℕ). getD (end .tuples) i blankTuple) place ∙ at .2;
+      filled = omega (arith, here, at .1, long);
+      stands = ap (λ (l : List Tuple). getD l (position - 1) blankTuple) (end .lists) ∙ ap (λ (i : ℕ). getD list i blankTuple) place ∙ at .2;
     }
 
 -- ---- the sum
 
-module _ (config : Config) (calls : List Call) (safe : sound config ≡ true) (is-four : config .policy ≡ 4) where
+module _ (config : Config) (calls : List Call) (safe : sound config ≡ true) (shares : hasList config ≡ true) where
   -- what was read of 1 to m is the first m of the list
   read-first : (process m : ℕ) (tuples : List Tuple) → ReadTo config calls process m tuples → tuples ≡ take m (listAfter config calls)
   read-first process m tuples read =
       let list = listAfter config calls in
       let standing : (i : ℕ) → i < m → (i + 1 ≤ length list) × (getD list i blankTuple ≡ getD tuples i blankTuple) =
-      λ i h. let at = read-rule config calls process (i + 1) (getD tuples i blankTuple) safe is-four (read .each i h) in
+      λ i h. let at = read-rule config calls process (i + 1) (getD tuples i blankTuple) safe shares (read .each i h) in
       let same : i + 1 - 1 ≡ i = omega arith in
       (at .filled, ap (λ (k : ℕ). getD list k blankTuple) (sym same) ∙ at .stands) in
       let long : m ≤ length list =
@@ -179,9 +185,9 @@ module _ (config : Config) (calls : List Call) (safe : sound config ≡ true) (i
       (λ i h. let below : i < m = omega (arith, read .many) in sym (getD-take m list i blankTuple below ∙ standing i below .1))
 
 pub same-sum : SameSum
-same-sum config calls process other m tuples others safe is-four one two =
-    let first = read-first config calls safe is-four process m tuples one in
-    let second = read-first config calls safe is-four other m others two in
+same-sum config calls process other m tuples others safe shares one two =
+    let first = read-first config calls safe shares process m tuples one in
+    let second = read-first config calls safe shares other m others two in
     record { same = ap shiftSum (first ∙ sym second); first = first; second = second }
 
 pub shift-sums : ShiftSums

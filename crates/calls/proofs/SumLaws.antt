@@ -31,7 +31,7 @@ goes-sum (Goes.goes f p (Moves.full q h)) = omega arith
 goes-sum (Goes.goes f p (Moves.reads e)) = rw e (omega arith)
 goes-sum (Goes.goes f p Moves.lacks) = omega arith
 goes-sum (Goes.goes f p Moves.keeps) = omega arith
-goes-sum (Goes.goes f p (Moves.takes i e inside)) = rw e (simp (length-append, length-take, length-drop) (omega arith))
+goes-sum (Goes.goes f p (Moves.takes i e at inside)) = rw e (simp (length-append, length-take, length-drop) (omega arith))
 
 sum-from : {config : Config} {space : Space} (calls : List Call) (run : Run config space)
     → length (held (after space calls)) + removals (turnsFrom space calls) ≡ length (run .tuples) + additions (turnsFrom space calls)
@@ -55,7 +55,7 @@ goes-grows {tuples = tuples} none (Goes.goes f p (Moves.full q h)) = ([], sym (a
 goes-grows {tuples = tuples} none (Goes.goes f p (Moves.reads e)) = ([], sym (append-nil tuples))
 goes-grows {tuples = tuples} none (Goes.goes f p Moves.lacks) = ([], sym (append-nil tuples))
 goes-grows {tuples = tuples} none (Goes.goes f p Moves.keeps) = ([], sym (append-nil tuples))
-goes-grows {tuples = tuples} {call = call} none (Goes.goes f p (Moves.takes i e inside)) = absurd (none tuples call e p)
+goes-grows {tuples = tuples} {call = call} none (Goes.goes f p (Moves.takes i e at inside)) = absurd (none tuples call e p)
 
 grows-from : {config : Config} {space : Space} (calls : List Call) → NoInp config → (run : Run config space)
     → (more : List Tuple) × (held (after space calls) ≡ run .tuples ++ more)

@@ -1,9 +1,10 @@
 -- Lists of calls that keep a property of the tuples held, under any policy: the tuples that they leave, and that 8 never comes. From what one call does.
 use mathlib.Core.Path.{_≡_, refl, sym, ap, _∙_}
 use mathlib.Core.Logic.{⊎-elim}
-use mathlib.Core.List.{List, [], _∷_, List·Memᴰ, List·Memᴰ·not-nil, List·Memᴰ·cases-cons}
+use mathlib.Core.List.{List, [], _∷_, _++_, List·Memᴰ, List·Memᴰ·tail, List·Memᴰ·not-nil, List·Memᴰ·cases-cons}
 use Rattle.calls.specs.Turns.{Turn, applied, turnsFrom, lastOf, after}
 use Rattle.space.specs.declared.config.Config.{Config}
+use Rattle.space.specs.declared.space.Space.{Space}
 use Rattle.space.specs.Spaces.{spaceOf}
 use Rattle.tuple.specs.declared.field.Tuple.{Tuple}
 use Rattle.tuple.specs.declared.field.Call.{Call}
@@ -33,3 +34,9 @@ module _ (config : Config) (Kept : List Tuple → Type 0) (keeps : (tuples : Lis
       ⊎-elim (λ e. step .never (ap (λ (t : Turn). t .reply .outcome) (sym e) ∙ full))
       (λ (later : List·Memᴰ turn (turnsFrom (applied (spaceOf config tuples) call .space) calls)). never-from calls (step .next) (step .kept) turn full (rw (step .space) at later))
       (List·Memᴰ·cases-cons m)
+
+-- the turns of calls behind others
+pub turns-behind : (space : Space) (before calls : List Call) (turn : Turn) → List·Memᴰ turn (turnsFrom (after space before) calls) → List·Memᴰ turn (turnsFrom space (before ++ calls))
+unfolding lastOf turnsFrom
+turns-behind space [] calls turn m = m
+turns-behind space (call ∷ before) calls turn m = List·Memᴰ·tail (turns-behind (applied space call .space) before calls turn m)

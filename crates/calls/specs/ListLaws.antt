@@ -1,23 +1,26 @@
--- What policy 4 makes of every list of calls from a fresh space, and of a space handed in (`HandedIns`), as claims over the definitions, in document
--- 02's words.
+-- What policies 4 and 5 make of every list of calls from a fresh space, and policy 4 of a space handed in (`HandedIns`), as claims over the definitions, in
+-- document 02's words.
 use mathlib.Core.Path.{_≡_}
 use mathlib.Core.Bool.{true, false}
+use mathlib.Core.Logic.{_⊎_}
 use mathlib.Core.List.{List, [], _∷_, _++_, List·Memᴰ}
 use Prim.Native.Nat.{ℕ, _+_, _-_, _≤_, _<_}
 use lib.ListN.{length, take, getD}
 use lib.IntN.{ℤ, pos, negsuc, _+ℤ_}
-use Rattle.calls.specs.Lists.{listAfter, listCas, OwnCas, Read, ReadTo, shiftOf, shiftSum}
+use Rattle.calls.specs.Lists.{listAfter, listFor, listCas, announceOut, OwnCas, ListedBy, Read, ReadTo, shiftOf, shiftSum}
 use Rattle.calls.specs.Turns.{applied, turns, last}
 use Rattle.policy.specs.declared.verdicts.Verdict.the-variants.{Permit, Refuse}
+use Rattle.policy.specs.Listing.{preferred}
 use Rattle.policy.specs.Policies.{verdictOn}
 use Rattle.space.specs.declared.config.Config.{Config}
-use Rattle.space.specs.Configs.{sound}
+use Rattle.space.specs.Announcements.{isAnnouncement, announcerOf, announcement, Announcing, Oldest}
+use Rattle.space.specs.Configs.{sound, hasList}
 use Rattle.space.specs.Lists.{isListTuple, listTuple, positionOf, serialOf, shiftCode, Listed}
 use Rattle.space.specs.Shapes.{processOf}
 use Rattle.space.specs.Spaces.{held}
 use Rattle.tuple.specs.declared.field.Tuple.{Tuple}
 use Rattle.tuple.specs.declared.field.Call.{Call}
-use Rattle.tuple.specs.declared.reply.Outcome.the-variants.{Inserted, Held, Refused}
+use Rattle.tuple.specs.declared.reply.Outcome.the-variants.{Done, Inserted, Held, Refused}
 use Rattle.tuple.specs.declared.offset.Offset.the-variants.{Hundredths}
 use Rattle.tuple.specs.Bounds.{largestCount, largestCode}
 use Rattle.tuple.specs.Fields.{blankTuple}
@@ -45,9 +48,21 @@ pub record ListingRule (config : Config) (calls : List Call) : Type 0 where
       → i ≡ j
   -- none has bottom for its shift
   pub some : (tuple : Tuple) → List·Memᴰ tuple (held (last config calls)) → isListTuple tuple ≡ true → shiftCode tuple ≡ bottom → ⊥
+  -- each was inserted by a cas of its own process, or under policy 5 of another one, and then it is what its process had announced
+  pub listed-by : (tuple : Tuple) → List·Memᴰ tuple (held (last config calls)) → isListTuple tuple ≡ true → ListedBy config calls tuple
 
 abbrev pub ListingRules : Type 0
-ListingRules = (config : Config) (calls : List Call) → sound config ≡ true → config .policy ≡ 4 → ListingRule config calls
+ListingRules = (config : Config) (calls : List Call) → sound config ≡ true → hasList config ≡ true → ListingRule config calls
+
+-- list tuples never leave: the list only grows, at its end
+abbrev pub ListGrows : Type 0
+ListGrows =
+    (config : Config) (before calls : List Call)
+    → sound config ≡ true
+    → hasList config ≡ true
+    → (more : List Tuple) × (listAfter config (before ++ calls) ≡ listAfter config before ++ more)
+
+-- ---- policy 4 alone
 
 pub record ListAlone (config : Config) (calls : List Call) : Type 0 where
   -- only list tuples stand: the list is all that is held
@@ -58,14 +73,6 @@ pub record ListAlone (config : Config) (calls : List Call) : Type 0 where
 
 abbrev pub ListAlones : Type 0
 ListAlones = (config : Config) (calls : List Call) → sound config ≡ true → config .policy ≡ 4 → ListAlone config calls
-
--- list tuples never leave: the list only grows, at its end
-abbrev pub ListGrows : Type 0
-ListGrows =
-    (config : Config) (before calls : List Call)
-    → sound config ≡ true
-    → config .policy ≡ 4
-    → (more : List Tuple) × (listAfter config (before ++ calls) ≡ listAfter config before ++ more)
 
 -- never stuck: wherever a run stands with m < 112 positions filled, every process has a cas at m + 1 that is inserted, under any serial that is not listed
 -- for it, of any shift but bottom
@@ -116,6 +123,103 @@ pub record HandedIn (config : Config) : Type 0 where
 abbrev pub HandedIns : Type 0
 HandedIns = (config : Config) → config .policy ≡ 4 → HandedIn config
 
+-- ---- policy 5 alone
+
+-- beside the list tuples stand announcements, at most one to a process, each of one of 1 to n and none of bottom
+pub record AnnouncingRule (config : Config) (calls : List Call) : Type 0 where
+  pub only : (tuple : Tuple) → List·Memᴰ tuple (held (last config calls))
+      → (isListTuple tuple ≡ true) ⊎ ((isAnnouncement tuple ≡ true) × (1 ≤ announcerOf tuple) × (announcerOf tuple ≤ config .n))
+  pub one : (i j : ℕ) → i < length (held (last config calls)) → j < length (held (last config calls))
+      → isAnnouncement (getD (held (last config calls)) i blankTuple) ≡ true
+      → isAnnouncement (getD (held (last config calls)) j blankTuple) ≡ true
+      → announcerOf (getD (held (last config calls)) i blankTuple) ≡ announcerOf (getD (held (last config calls)) j blankTuple)
+      → i ≡ j
+
+abbrev pub AnnouncingRules : Type 0
+AnnouncingRules = (config : Config) (calls : List Call) → sound config ≡ true → config .policy ≡ 5 → AnnouncingRule config calls
+
+-- never stuck: wherever a run stands with m < 112 positions filled, every process has a cas at m + 1 that is inserted: of what the preferred process has
+-- announced, if that is not listed; else of any shift of its own, under any serial that is not listed for it
+pub record NextDue (config : Config) (calls : List Call) (caller : ℕ) : Type 0 where
+  pub helps : (serial code : ℕ)
+      → Oldest (held (last config calls)) (preferred (config .n) (length (listAfter config calls) + 1)) serial code
+      → (Listed (held (last config calls)) (preferred (config .n) (length (listAfter config calls) + 1)) serial → ⊥)
+      → applied (last config calls)
+      (listFor caller (length (listAfter config calls) + 1) (preferred (config .n) (length (listAfter config calls) + 1)) serial code) .reply .outcome
+      ≡ Inserted
+  pub alone : (serial code : ℕ)
+      → serial ≤ largestCount
+      → (code ≡ bottom → ⊥)
+      → code ≤ largestCode
+      → (Listed (held (last config calls)) caller serial → ⊥)
+      → (Announcing (held (last config calls)) (preferred (config .n) (length (listAfter config calls) + 1)) → ⊥)
+      ⊎ ((other : ℕ) × (shift : ℕ)
+      × Oldest (held (last config calls)) (preferred (config .n) (length (listAfter config calls) + 1)) other shift
+      × Listed (held (last config calls)) (preferred (config .n) (length (listAfter config calls) + 1)) other)
+      → applied (last config calls) (listCas caller (length (listAfter config calls) + 1) serial code) .reply .outcome ≡ Inserted
+
+abbrev pub NextDues : Type 0
+NextDues =
+    (config : Config) (calls : List Call) (caller : ℕ)
+    → sound config ≡ true
+    → config .policy ≡ 5
+    → length (listAfter config calls) < 112
+    → 1 ≤ caller
+    → caller ≤ config .n
+    → NextDue config calls caller
+
+-- and every process that has none standing may announce any shift, under any serial, be it listed
+abbrev pub NextAnnounced : Type 0
+NextAnnounced =
+    (config : Config) (calls : List Call) (process serial code : ℕ)
+    → sound config ≡ true
+    → config .policy ≡ 5
+    → 1 ≤ process
+    → process ≤ config .n
+    → serial ≤ largestCount
+    → (code ≡ bottom → ⊥)
+    → code ≤ largestCode
+    → (Announcing (held (last config calls)) process → ⊥)
+    → applied (last config calls) (announceOut process serial code) .reply .outcome ≡ Done
+
+-- an announcement whose out was done behind `before`, and whose process and serial were not listed then, stands in every space up to the end of `calls`
+pub record Standing (config : Config) (before calls : List Call) (process serial code : ℕ) : Type 0 where
+  pub done : applied (last config before) (announceOut process serial code) .reply .outcome ≡ Done
+  pub unlisted : Listed (held (last config before)) process serial → ⊥
+  pub stands : (early late : List Call) → calls ≡ early ++ late
+      → List·Memᴰ (announcement process serial code) (held (last config (before ++ (announceOut process serial code ∷ early))))
+
+-- one of the positions behind those that were filled at the out, up to `last-one`, lists that process and serial
+pub record ListedWithin (config : Config) (before end : List Call) (last-one process serial : ℕ) : Type 0 where
+  pub i : ℕ
+  pub late : length (listAfter config before) ≤ i
+  pub soon : i < last-one
+  pub filled : i < length (listAfter config end)
+  pub by : processOf (getD (listAfter config end) i blankTuple) ≡ process
+  pub with-serial : serialOf (getD (listAfter config end) i blankTuple) ≡ serial
+
+-- if it stands until a position behind the out that prefers its process is filled, it is listed there or before
+abbrev pub HelpedAt : Type 0
+HelpedAt =
+    (config : Config) (before calls : List Call) (process serial code position : ℕ)
+    → sound config ≡ true
+    → config .policy ≡ 5
+    → Standing config before calls process serial code
+    → length (listAfter config before) < position
+    → preferred (config .n) position ≡ process
+    → position ≤ length (listAfter config (before ++ (announceOut process serial code ∷ calls)))
+    → ListedWithin config before (before ++ (announceOut process serial code ∷ calls)) position process serial
+
+-- and so, if it stands while the first n positions behind the out are filled, one of these lists that process and serial
+abbrev pub Helped : Type 0
+Helped =
+    (config : Config) (before calls : List Call) (process serial code : ℕ)
+    → sound config ≡ true
+    → config .policy ≡ 5
+    → Standing config before calls process serial code
+    → length (listAfter config before) + config .n ≤ length (listAfter config (before ++ (announceOut process serial code ∷ calls)))
+    → ListedWithin config before (before ++ (announceOut process serial code ∷ calls)) (length (listAfter config before) + config .n) process serial
+
 -- ---- reading it
 
 -- what a process has read of a position stands there at the end, so that any two readings of a position are one tuple
@@ -128,7 +232,7 @@ abbrev pub ReadRule : Type 0
 ReadRule =
     (config : Config) (calls : List Call) (process position : ℕ) (tuple : Tuple)
     → sound config ≡ true
-    → config .policy ≡ 4
+    → hasList config ≡ true
     → Read config calls process position tuple
     → ReadStands config calls position tuple
 
@@ -142,7 +246,7 @@ abbrev pub SameSum : Type 0
 SameSum =
     (config : Config) (calls : List Call) (process other m : ℕ) (tuples others : List Tuple)
     → sound config ≡ true
-    → config .policy ≡ 4
+    → hasList config ≡ true
     → ReadTo config calls process m tuples
     → ReadTo config calls other m others
     → SameSums config calls m tuples others
@@ -189,3 +293,37 @@ EveryList =
     → (calls : List Call)
     × Picked config calls picks
     × ((process : ℕ) → 1 ≤ process → process ≤ config .n → (tuples : List Tuple) × ReadTo config calls process (length picks) tuples)
+
+-- and some announcement is helped: a process announces, another one takes the next position from it, and lists the announcement for it within n positions
+pub record HelpedRun (config : Config) (process : ℕ) : Type 0 where
+  pub before : List Call
+  pub calls : List Call
+  pub serial : ℕ
+  pub code : ℕ
+  pub helper : ℕ
+  pub other : helper ≡ process → ⊥
+  pub standing : Standing config before calls process serial code
+  pub lost : processOf (getD (listAfter config (before ++ (announceOut process serial code ∷ calls))) (length (listAfter config before)) blankTuple) ≡ helper
+  pub position : ℕ
+  pub soon : position ≤ length (listAfter config before) + config .n
+  pub helped : applied (last config (before ++ (announceOut process serial code ∷ calls))) (listFor helper position process serial code) .reply .outcome ≡ Inserted
+
+-- for every process, where there are two
+abbrev pub EveryHelp : Type 0
+EveryHelp =
+    (config : Config) (process : ℕ)
+    → sound config ≡ true
+    → config .policy ≡ 5
+    → 2 ≤ config .n
+    → 1 ≤ process
+    → process ≤ config .n
+    → HelpedRun config process
+
+-- one alone announces, is denied its other serial, and lists what it announced itself
+pub record AloneRun (config : Config) : Type 0 where
+  pub announces : applied (last config []) (announceOut 1 7 80) .reply .outcome ≡ Done
+  pub denied : applied (last config (announceOut 1 7 80 ∷ [])) (listCas 1 1 8 81) .reply .outcome ≡ Refused (refusal 7)
+  pub lists : applied (last config (announceOut 1 7 80 ∷ [])) (listCas 1 1 7 80) .reply .outcome ≡ Inserted
+
+abbrev pub AloneRuns : Type 0
+AloneRuns = (config : Config) → sound config ≡ true → config .policy ≡ 5 → config .n ≡ 1 → AloneRun config

@@ -1,14 +1,16 @@
--- Document 02, 2.6: the shared list that a space holds, the cas that goes on with it, what a process has read of it, and the sum of its shifts.
+-- Document 02, 2.6 and 2.7: the shared list that a space holds, the calls that go on with it, what a process has read of it, and the sum of its shifts.
 use mathlib.Core.Path.{_≡_}
+use mathlib.Core.Logic.{_⊎_}
 use Prim.Native.Nat.{ℕ, _+_, _<_}
 use mathlib.Core.Bool.{true, cond}
-use mathlib.Core.List.{List, [], _∷_, List·Memᴰ}
+use mathlib.Core.List.{List, [], _∷_, _++_, List·Memᴰ}
 use lib.ListN.{length, getD}
 use lib.IntN.{ℤ, pos, _+ℤ_}
-use Rattle.calls.specs.Turns.{Turn, turns, last}
+use Rattle.calls.specs.Turns.{Turn, applied, turns, last}
 use Rattle.policy.specs.Listing.{listTemplate}
 use Rattle.space.specs.declared.config.Config.{Config}
-use Rattle.space.specs.Lists.{isListTuple, listTuple, positionOf, shiftCode}
+use Rattle.space.specs.Announcements.{announcement, Oldest}
+use Rattle.space.specs.Lists.{isListTuple, listTuple, positionOf, serialOf, shiftCode}
 use Rattle.space.specs.Shapes.{processOf}
 use Rattle.space.specs.Spaces.{held}
 use Rattle.tuple.specs.declared.field.Tuple.{Tuple}
@@ -16,7 +18,7 @@ use Rattle.tuple.specs.declared.field.Call.{Call}
 use Rattle.tuple.specs.declared.offset.Offset.{Offset}
 use Rattle.tuple.specs.declared.offset.Offset.the-variants.{Bottom, Hundredths}
 use Rattle.tuple.specs.declared.reply.Outcome.the-variants.{Found, Inserted, Held}
-use Rattle.tuple.specs.Fields.{cas, blankTuple}
+use Rattle.tuple.specs.Fields.{out, cas, blankTuple}
 use Rattle.tuple.specs.Offsets.{offsetOf}
 
 -- ---- the list
@@ -30,10 +32,17 @@ listOf (tuple ∷ tuples) = cond (isListTuple tuple) (tuple ∷ listOf tuples) (
 abbrev pub listAfter : Config → List Call → List Tuple
 listAfter config calls = listOf (held (last config calls))
 
--- the cas by which a process lists the shift of a code at a position, under a serial
+-- the cas by which a process lists a shift for a process, at a position, under a serial; and one in its own name
+abbrev pub listFor : ℕ → ℕ → ℕ → ℕ → ℕ → Call
+listFor caller position process serial code =
+    record { process = caller; code = cas; template = listTemplate position; entry = listTuple position process serial code }
+
 abbrev pub listCas : ℕ → ℕ → ℕ → ℕ → Call
-listCas process position serial code =
-    record { process = process; code = cas; template = listTemplate position; entry = listTuple position process serial code }
+listCas process position serial code = listFor process position process serial code
+
+-- the out by which a process announces a shift
+abbrev pub announceOut : ℕ → ℕ → ℕ → Call
+announceOut process serial code = record { process = process; code = out; template = blankTuple; entry = announcement process serial code }
 
 -- one of the turns inserted the tuple: a cas of the tuple's own process
 pub record OwnCas (made : List Turn) (tuple : Tuple) : Type 0 where
@@ -43,6 +52,17 @@ pub record OwnCas (made : List Turn) (tuple : Tuple) : Type 0 where
   pub entry : turn .call .entry ≡ tuple
   pub own : turn .call .process ≡ processOf tuple
   pub inserted : turn .reply .outcome ≡ Inserted
+
+-- the tuple was inserted by a cas: of its own process; or, under policy 5, of another, and then it is the oldest announcement of its process that stood at that call
+pub record ListedBy (config : Config) (calls : List Call) (tuple : Tuple) : Type 0 where
+  pub before : List Call
+  pub call : Call
+  pub behind : List Call
+  pub split : calls ≡ before ++ (call ∷ behind)
+  pub code : call .code ≡ cas
+  pub entry : call .entry ≡ tuple
+  pub inserted : applied (last config before) call .reply .outcome ≡ Inserted
+  pub by : (call .process ≡ processOf tuple) ⊎ ((config .policy ≡ 5) × Oldest (held (last config before)) (processOf tuple) (serialOf tuple) (shiftCode tuple))
 
 -- ---- reading it
 

@@ -32,7 +32,7 @@ SumRule =
     → sound config ≡ true
     → length (held (last config calls)) + removals (turns config calls) ≡ additions (turns config calls)
 
--- under policies 1 to 4 refusal 8 never comes
+-- under policies 1 to 5 refusal 8 never comes
 abbrev pub NeverFull : Type 0
 NeverFull =
     (config : Config) (calls : List Call) (turn : Turn)
@@ -42,7 +42,7 @@ NeverFull =
     → turn .reply .outcome ≡ Refused (refusal 8)
     → ⊥
 
--- the policy permits no inp, as 1 to 4 do (`InpRule`)
+-- the policy permits no inp: so it is under policies 1 to 4 (`InpRule`)
 abbrev pub NoInp : Config → Type 0
 NoInp config = (tuples : List Tuple) (call : Call) → call .code ≡ inp → verdictOn config tuples call ≡ Permit → ⊥
 

@@ -11,7 +11,7 @@ use Rattle.calls.specs.Effects.{effect}
 use Rattle.calls.specs.Turns.{firstRefusal, judged, applied, turnsFrom, turns, lastOf}
 use Rattle.policy.specs.Default.{bearsBottom}
 use Rattle.policy.specs.Justified.{isOwnProposal, isFree, outVerdict, isDecisionCall, bearsOffset, bears, casVerdict, justified}
-use Rattle.policy.specs.Listing.{isListTemplate, isListCall, isNew, begins, follows, mayList, shared}
+use Rattle.policy.specs.Listing.{isListTemplate, isListCall, isNew, begins, follows, owed, isDue, mayList, mayAnnounce, shared}
 use Rattle.policy.specs.Policies.{verdictOn, verdict}
 use Rattle.policy.specs.Shapes.{isWeakTemplate, isWeakEntry, isDecisionTemplate, isDecision}
 use Rattle.policy.specs.Weak.{isWeakCall, weak}
@@ -19,7 +19,7 @@ use Rattle.record.specs.Writing.{fieldBytes, fieldsBytes, tupleBytes, partBytes
 use Rattle.record.specs.Heads.{headOf}
 use Rattle.record.specs.Reading.{readNumber, valueAt, fieldAt, fieldsAt, tupleAt, partAt, partsAt, bodyAt, callAt}
 use Rattle.script.specs.Scripts.{configOf, setUpBytes, recordsBytes, recordsFrom, recordsAt, ranOn, ran}
-use Rattle.space.specs.Configs.{choiceSound, plainSound, sound, hasProposals, known}
+use Rattle.space.specs.Configs.{choiceSound, plainSound, sound, hasProposals, hasList, known}
 use Rattle.space.specs.Lists.{isListTuple, lists, isThere, isFilled, isListed}
 use Rattle.space.specs.Members.{beyond, within, every}
 use Rattle.space.specs.Proposals.{isChoice, offered, decidable, proposes, proposed, everyProposed}
@@ -64,9 +64,9 @@ unfolding dumps.dumpBytes dumps.dumpCalls dumps.writtenOf dumps.isReached dumps.
     carriedOut effect firstRefusal judged applied turnsFrom turns
     bearsBottom isOwnProposal isFree outVerdict isDecisionCall bearsOffset bears casVerdict justified isWeakCall weak verdictOn verdict
     isWeakTemplate isWeakEntry isDecisionTemplate isDecision
-    isListTemplate isListCall isNew begins follows mayList shared isListTuple lists isThere isFilled isListed
+    isListTemplate isListCall isNew begins follows owed isDue mayList mayAnnounce shared isListTuple lists isThere isFilled isListed
     fieldBytes fieldsBytes tupleBytes partBytes callBytes setUpBytes recordsBytes
-    choiceSound plainSound sound hasProposals known beyond within every isChoice offered decidable proposes proposed everyProposed isProposal
+    choiceSound plainSound sound hasProposals hasList known beyond within every isChoice offered decidable proposes proposed everyProposed isProposal
     placeSound placesFrom bounded wellFormed freshOf
     knownHead fieldFault fieldsFault tupleFault partFault usesTemplate usesEntry usedFault isBlank placeBlank restFrom restBlank callFault isEntry
     largestOf fieldMatches fieldsMatch matches oldestFrom oldestOf groupsOf bytesOf ones

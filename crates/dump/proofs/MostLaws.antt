@@ -39,18 +39,18 @@ use Rattle.varint.specs.Writing.{widthOf}
 pub length-most : LengthMost
 length-most space room n typed e =
     let fit = fits space room n e in
-    (fit .same, omega (arith, fit .same, dump-most space typed (record { formed = fit .formed; reached = fit .reached })))
+    (fit .same, omega (arith, fit .same, dump-most space typed (record { formed = fit .formed; other = fit .other; reached = fit .reached })))
 
 pub always-room : AlwaysRoom
-always-room space room typed formed not-refused enough =
+always-room space room typed formed other not-refused enough =
     cases (isReached space)
-    (λ r. whole-answer space room formed r (omega (arith, dump-most space typed (record { formed = formed; reached = r }))))
-    (λ r. absurd (not-refused (unreached-answer space room formed r)))
+    (λ r. whole-answer space room formed other r (omega (arith, dump-most space typed (record { formed = formed; other = other; reached = r }))))
+    (λ r. absurd (not-refused (unreached-answer space room formed other r)))
 
 pub list-length-most : ListLengthMost
 list-length-most space room n typed is-four e =
     let fit = fits space room n e in
-    (fit .same, omega (arith, fit .same, list-most space typed (record { formed = fit .formed; reached = fit .reached }) is-four))
+    (fit .same, omega (arith, fit .same, list-most space typed (record { formed = fit .formed; other = fit .other; reached = fit .reached }) is-four))
 
 -- ---- the longest
 
@@ -134,7 +134,7 @@ module _ (config : Config) (tuples : List Tuple) (safe : sound config ≡ true) 
 
   attained : (room : ℕ) → 4_995 ≤ room → writtenOf (spaceOf config tuples) room ≡ Length 4_995
   attained room enough =
-      whole-answer (spaceOf config tuples) room (formed-of config tuples safe lawful) (bare-reached config safe bare tuples lawful) (omega (arith, full-length))
+      whole-answer (spaceOf config tuples) room (formed-of config tuples safe lawful) (λ five. omega arith) (bare-reached config safe (λ five. omega arith) bare tuples lawful) (omega (arith, full-length))
       ∙ ap Length full-length
 
 -- six times 2^28

@@ -69,7 +69,7 @@ module _ (config : Config) (tuples : List Tuple) (lawful : Lawful tuples) (call 
     by-moves (Moves.reads e) answers same put = absurd (false≢true (rw answers at put))
     by-moves Moves.lacks answers same put = absurd (false≢true (rw answers at put))
     by-moves Moves.keeps answers same put = absurd (false≢true (rw answers at put))
-    by-moves (Moves.takes i e inside) answers same put = absurd (false≢true (rw answers at put))
+    by-moves (Moves.takes i e at inside) answers same put = absurd (false≢true (rw answers at put))
 
   by-steps : {done : Applied} → Steps (spaceOf config tuples) call done → isAppended (done .reply .outcome) ≡ true → Entered config tuples call done
   by-steps (Steps.refuses why low) put = absurd (false≢true put)
@@ -92,11 +92,11 @@ pub data Under (config : Config) : Type 0 where
   deciding : Deciding config → Under config
   listing : config .policy ≡ 4 → Under config
 
-pub under : (config : Config) → sound config ≡ true → Under config
-under config safe =
+pub under : (config : Config) → sound config ≡ true → (config .policy ≡ 5 → ⊥) → Under config
+under config safe other =
     cases (eqb (config .policy) 0) (λ e. bare (eqb-true _ _ e))
     (λ e. cases (eqb (config .policy) 4) (λ f. listing (eqb-true _ _ f))
-    (λ f. deciding (omega (arith, eqb-false (config .policy) 0 e), omega (arith, eqb-false (config .policy) 4 f, sound-range config safe))))
+    (λ f. deciding (omega (arith, eqb-false (config .policy) 0 e), omega (arith, eqb-false (config .policy) 4 f, other, sound-range config safe))))
 
 module _ (config : Config) (tuple : Tuple) where
   pub call-entry : callOf config tuple .entry ≡ tuple
@@ -171,8 +171,8 @@ module _ (config : Config) (tuples : List Tuple) (tuple : Tuple) {done : Applied
       (record { by = sym (made .2) ∙ ap processOf entry; code = made .0; template = list .template; position = list .same ∙ ap positionOf entry; entry = entry })
 
   -- a tuple that its call appends is appended as document 02 says
-  pub appends-named : sound config ≡ true → Appends config tuple (callOf config tuple)
-  appends-named safe = by-policy (under config safe)
+  pub appends-named : sound config ≡ true → (config .policy ≡ 5 → ⊥) → Appends config tuple (callOf config tuple)
+  appends-named safe other = by-policy (under config safe other)
     where
       by-policy : Under config → Appends config tuple (callOf config tuple)
       by-policy (bare none) = rw (call-bare config tuple none) (Appends.bare none (record { by = refl; code = refl; template = refl; entry = refl }))
@@ -201,7 +201,7 @@ pub record Rebuilt (config : Config) (before rest : List Tuple) : Type 0 where
   pub each : (tuple : Tuple) → List·Memᴰ tuple rest → Told config tuple
   pub left : after (spaceOf config before) (map (callOf config) rest) ≡ spaceOf config (before ++ rest)
 
-module _ (config : Config) (safe : sound config ≡ true) where
+module _ (config : Config) (safe : sound config ≡ true) (other-policy : config .policy ≡ 5 → ⊥) where
   pub rebuilt : (before rest : List Tuple) → Lawful before → allAppended (turnsFrom (spaceOf config before) (map (callOf config) rest)) ≡ true
       → Rebuilt config before rest
   unfolding turnsFrom lastOf allAppended
@@ -211,7 +211,7 @@ module _ (config : Config) (safe : sound config ≡ true) where
       let call = callOf config tuple in
       let parts = and-eq-true-iff (isAppended (applied (spaceOf config before) call .reply .outcome)) _ .0 put in
       let here = entered config before lawful call (parts .0) in
-      let named = appends-named config before tuple here safe in
+      let named = appends-named config before tuple here safe other-policy in
       let entry = call-entry config tuple in
       let same : applied (spaceOf config before) call .space ≡ spaceOf config (before ++ (tuple ∷ [])) =
       here .same ∙ ap (λ (t : Tuple). spaceOf config (before ++ (t ∷ []))) entry in

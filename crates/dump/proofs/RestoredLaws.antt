@@ -95,14 +95,14 @@ module _ (space : Space) (typed : Typed space) (dumpable : Dumpable space) where
 -- ---- the answer
 
 pub restored-rule : RestoredRule
-restored-rule space room typed formed not-refused =
+restored-rule space room typed formed other not-refused =
     cases (isReached space)
-    (λ e. restored space typed (record { formed = formed; reached = e }))
-    (λ e. absurd (not-refused (unreached-answer space room formed e)))
+    (λ e. restored space typed (record { formed = formed; other = other; reached = e }))
+    (λ e. absurd (not-refused (unreached-answer space room formed other e)))
 
 pub refused-rule : RefusedRule
-refused-rule space room typed formed nowhere =
+refused-rule space room typed formed other nowhere =
     cases (isReached space)
-    (λ e. let again = restored space typed (record { formed = formed; reached = e }) in
+    (λ e. let again = restored space typed (record { formed = formed; other = other; reached = e }) in
     absurd (nowhere (dumpBytes space) (record { bytes = again .bytes; config = space .config; made = again .made; fault = Absent; runs = again .runs })))
-    (λ e. unreached-answer space room formed e)
+    (λ e. unreached-answer space room formed other e)

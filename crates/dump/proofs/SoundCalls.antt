@@ -3,7 +3,7 @@ use mathlib.Core.Path.{_≡_, refl, sym, ap, _∙_, subst}
 use Prim.Native.Nat.{ℕ, _+_, _*_, _≤_, _<_}
 use native.Mathlib.Omega.{arith}
 use native.Mathlib.Nat.{le-trans, mul-le-mul-left}
-use mathlib.Core.Logic.{⊎-elim}
+use mathlib.Core.Logic.{inl, ⊎-elim}
 use mathlib.Core.Bool.{true}
 use mathlib.Core.List.{List, [], _∷_, map, List·Memᴰ, List·Memᴰ·head, List·Memᴰ·tail, List·Memᴰ·not-nil, List·Memᴰ·cases-cons}
 use lib.ListN.{length, getD, length-append, length-map, length-set, length-take}
@@ -17,7 +17,8 @@ use Rattle.dump.proofs.HeldSteps.{no-tuple, tupleAt, callAt, inside}
 use Rattle.dump.proofs.LengthLaws.{set-up-three, set-up-most, recordMost, bare-most, deciding-most, listing-most, record-most, records-most}
 use Rattle.dump.proofs.ReachLaws.{Under, under, Rebuilt, rebuilt}
 use Rattle.calls.specs.Turns.{turns}
-use Rattle.calls.proofs.ListSteps.{Orderly, orderly-none, orderly-few, orderly-all, list-keeps}
+use Rattle.calls.proofs.ListSteps.{Orderly, orderly-few, orderly-all, Shared, shared-none, list-keeps}
+use Rattle.calls.proofs.ListingLaws.{shared-whole}
 use Rattle.calls.proofs.RunSteps.{fresh-space, none-lawful}
 use Rattle.calls.proofs.Walks.{kept-after}
 use Rattle.record.specs.Writing.{callBytes, Typed}
@@ -30,7 +31,7 @@ use Rattle.space.specs.Lists.{positionOf}
 use Rattle.space.specs.Shapes.{isProposal, processOf}
 use Rattle.space.specs.Spaces.{held}
 use Rattle.space.specs.Spaces as spaces
-use Rattle.space.proofs.ConfigLaws.{sound-range}
+use Rattle.space.proofs.ConfigLaws.{sound-range, has-list-rule}
 use Rattle.space.proofs.SpaceRules.{held-of, formed-sound, formed-few, mem-take, stands}
 use Rattle.tuple.specs.declared.fault.Fault.the-variants.{Absent}
 use Rattle.tuple.specs.declared.field.Tuple.{Tuple}
@@ -76,7 +77,7 @@ module _ (space : Space) (typed : spaces.Typed space) (dumpable : Dumpable space
   -- they rebuild the tuples held from nothing
   pub back : Rebuilt (space .config) [] (held space)
   unfolding isReached turns dumpCalls
-  back = rebuilt (space .config) safe [] (held space) none-lawful (rw (fresh-space (space .config) safe) at (dumpable .reached))
+  back = rebuilt (space .config) safe (dumpable .other) [] (held space) none-lawful (rw (fresh-space (space .config) safe) at (dumpable .reached))
 
   sound-call : (tuple : Tuple) → List·Memᴰ tuple (held space) → Sound (callOf (space .config) tuple)
   sound-call tuple m =
@@ -97,9 +98,10 @@ module _ (space : Space) (typed : spaces.Typed space) (dumpable : Dumpable space
   orderly : space .config .policy ≡ 4 → Orderly (held space)
   orderly is-four =
       let config = space .config in
-      let run = kept-after config Orderly (list-keeps config is-four) (map (callOf config) (held space)) [] orderly-none in
+      let shares = has-list-rule config .1 (inl is-four) in
+      let run = kept-after config (Shared config) (list-keeps config safe shares) (map (callOf config) (held space)) [] (shared-none config) in
       let same : run .0 ≡ held space = sym (held-of config (run .0)) ∙ ap held (sym (run .2) ∙ back .left) ∙ held-of config (held space) in
-      subst Orderly same (run .1)
+      subst Orderly (shared-whole is-four (run .1) ∙ same) (run .1 .list)
 
   -- ---- how long they are
 
@@ -132,7 +134,7 @@ module _ (space : Space) (typed : spaces.Typed space) (dumpable : Dumpable space
       omega (arith, rw (listing-most config is-four) at most, set-up-three config (safe space typed dumpable) (λ three. omega arith))
 
   pub dump-most : length (dumpBytes space) ≤ dumpMost
-  dump-most = by-policy (under config sound-config)
+  dump-most = by-policy (under config sound-config (dumpable .other))
     where
       sound-config : sound config ≡ true
       sound-config = safe space typed dumpable

@@ -1,5 +1,6 @@
 -- A space in which a script ends is not refused 14: under policies 1 to 3 each tuple was appended by a call that its own call is but for the process, under
 -- policy 4 by its own call, and under policy 0 every well-formed space is reached. From what a call does.
+use mathlib.Core.Logic.{⊎-elim}
 use mathlib.Core.Path.{_≡_, refl, sym, ap, _∙_}
 use Prim.Native.Nat.{ℕ, _≤_, _<_}
 use native.Mathlib.Omega.{arith}
@@ -36,11 +37,11 @@ use Rattle.record.specs.Writing.{Typed}
 use Rattle.script.proofs.RunLaws.{run-rules}
 use Rattle.space.specs.declared.config.Config.{Config}
 use Rattle.space.specs.declared.space.Space.{Space}
-use Rattle.space.specs.Configs.{sound, hasProposals, known}
+use Rattle.space.specs.Configs.{sound, hasProposals, known, hasList}
 use Rattle.space.specs.Lists.{positionOf}
 use Rattle.space.specs.Shapes.{isProposal, processOf}
 use Rattle.space.specs.Spaces.{held, spaceOf}
-use Rattle.space.proofs.ConfigLaws.{sound-range, Deciding, deciding-proposals}
+use Rattle.space.proofs.ConfigLaws.{sound-range, Deciding, deciding-proposals, has-list-rule}
 use Rattle.space.proofs.SpaceRules.{Lawful, held-of, formed-of}
 use Rattle.tuple.specs.declared.fault.Fault.the-variants.{Absent}
 use Rattle.tuple.specs.declared.field.Tuple.{Tuple}
@@ -129,7 +130,10 @@ module _ (process : ℕ) (template entry : Tuple) where
   same-verdict : (config : Config) (tuples : List Tuple) → Deciding config
       → verdictOn config tuples (casBy processOne template entry) ≡ verdictOn config tuples (casBy process template entry)
   unfolding verdictOn weak isWeakCall justified casVerdict isDecisionCall
-  same-verdict config tuples decides = rw (ne-eqb (config .policy) 4 (λ four. omega arith))
+  same-verdict config tuples decides =
+      let other : hasList config ≡ false =
+      cases (hasList config) (λ lists. absurd (⊎-elim (λ four. omega (arith, decides .1)) (λ five. omega (arith, decides .1)) (has-list-rule config .0 lists))) (λ e. e) in
+      rw other
 
   inserts : (tuples : List Tuple) → oldestOf tuples template ≡ Nowhere → length tuples < capacity → effect tuples (casBy process template entry) .reply .outcome ≡ outcome.Inserted
   unfolding effect
@@ -161,11 +165,11 @@ module _ (config : Config) (safe : sound config ≡ true) (tuples : List Tuple) 
       ∙ inserts processOne template (call .entry) tuples (rw (again .1) at none) (here .room) in
       rw (call-decision config (call .entry) decides (again .0), answer)
 
-  append-again : 1 ≤ config .policy → Again
-  append-again strict = by-policy (under config safe)
+  append-again : (1 ≤ config .policy) × (config .policy ≤ 4) → Again
+  append-again strict = by-policy (under config safe (λ five. omega (arith, strict .1)))
     where
       by-policy : Under config → Again
-      by-policy (Under.bare none) = absurd (omega arith)
+      by-policy (Under.bare none) = absurd (omega (arith, strict .0))
       by-policy (Under.deciding decides) = decided-again decides (here .enters)
       by-policy (Under.listing is-four) = rw (list-again config tuples call typed here is-four) put
 
@@ -176,7 +180,7 @@ data Went (config : Config) (tuples : List Tuple) (done : Applied) : Type 0 wher
   stays : done .space ≡ spaceOf config tuples → Went config tuples done
   appends : isAppended (done .reply .outcome) ≡ true → Went config tuples done
 
-module _ (config : Config) (strict : 1 ≤ config .policy) (tuples : List Tuple) (lawful : Lawful tuples) (call : Call) where
+module _ (config : Config) (strict : (1 ≤ config .policy) × (config .policy ≤ 4)) (tuples : List Tuple) (lawful : Lawful tuples) (call : Call) where
   moved : {how : Outcome} {change : Change} {done : Applied} → verdictOn config tuples call ≡ Permit → Moves tuples call how change → done .reply .outcome ≡ how
       → done .space ≡ spaceOf config (changed tuples (call .entry) change) → Went config tuples done
   moved permitted (Moves.adds (Enters.by-out e) room) answers same = appends (rw answers)
@@ -185,7 +189,7 @@ module _ (config : Config) (strict : 1 ≤ config .policy) (tuples : List Tuple)
   moved permitted (Moves.reads e) answers same = stays same
   moved permitted Moves.lacks answers same = stays same
   moved permitted Moves.keeps answers same = stays same
-  moved permitted (Moves.takes i e inside) answers same = absurd (no-inp config strict tuples call e permitted)
+  moved permitted (Moves.takes i e at inside) answers same = absurd (no-inp config (strict .0) (strict .1) tuples call e permitted)
 
   stepped : {done : Applied} → Steps (spaceOf config tuples) call done → Went config tuples done
   unfolding carriedOut
@@ -212,7 +216,7 @@ append-more space (earlier ∷ calls) call all put =
     let parts = and-eq-true-iff (isAppended (applied space earlier .reply .outcome)) _ .0 all in
     rw (parts .0) (append-more (applied space earlier .space) calls call (parts .1) put)
 
-module _ (config : Config) (safe : sound config ≡ true) where
+module _ (config : Config) (safe : sound config ≡ true) (other-policy : config .policy ≡ 5 → ⊥) where
   -- the own calls of the tuples append them all
   abbrev Reach : List Tuple → Type 0
   Reach tuples = allAppended (turnsFrom (spaceOf config []) (map (callOf config) tuples)) ≡ true
@@ -220,7 +224,7 @@ module _ (config : Config) (safe : sound config ≡ true) where
   reach-more : (tuples : List Tuple) (tuple : Tuple) → Reach tuples → isAppended (applied (spaceOf config tuples) (callOf config tuple) .reply .outcome) ≡ true
       → Reach (tuples ++ (tuple ∷ []))
   reach-more tuples tuple all put =
-      let left = rebuilt config safe [] tuples none-lawful all .left in
+      let left = rebuilt config safe other-policy [] tuples none-lawful all .left in
       rw (map-append (callOf config) tuples (tuple ∷ [])) (append-more (spaceOf config []) (map (callOf config) tuples) (callOf config tuple) all (rw left put))
 
   -- a space of tuples that their own calls append
@@ -230,7 +234,7 @@ module _ (config : Config) (safe : sound config ≡ true) where
     same : space ≡ spaceOf config tuples
     reach : Reach tuples
 
-  module _ (strict : 1 ≤ config .policy) where
+  module _ (strict : (1 ≤ config .policy) × (config .policy ≤ 4)) where
     call-left : (call : Call) → Typed call → (tuples : List Tuple) → Lawful tuples → Reach tuples → Went config tuples (applied (spaceOf config tuples) call)
         → Left (applied (spaceOf config tuples) call .space)
     call-left call typed tuples lawful reach (stays same) = record { tuples = tuples; lawful = lawful; same = same; reach = reach }
@@ -298,7 +302,7 @@ module _ (config : Config) (safe : sound config ≡ true) where
         reach = bare-reach (eqb-true (config .policy) 0 e) [] (run .tuples) none-lawful none-reach (run .lawful);
       })
       (λ e. let other = eqb-false (config .policy) 0 e in
-      calls-left (omega arith) calls typed _ (record { tuples = []; lawful = none-lawful; same = fresh-space config safe; reach = none-reach }))
+      calls-left (omega arith, omega (arith, sound-range config safe, other-policy)) calls typed _ (record { tuples = []; lawful = none-lawful; same = fresh-space config safe; reach = none-reach }))
 
   reached-of : (tuples : List Tuple) → Reach tuples → isReached (spaceOf config tuples) ≡ true
   unfolding isReached dumpCalls turns
@@ -315,6 +319,9 @@ unreached-rule space room s refused ends =
     let run = run-rules s (ends .config) (ends .made) (ends .fault) space (ends .runs) in
     let typed : (call : Call) → List·Memᴰ call (run .calls) → Typed call =
     λ call m. typed-calls s (ends .bytes) call (run .at) (rw (run .read) m) in
-    let left = run-left (ends .config) (run .stands) (run .calls) typed in
-    let reached : isReached space ≡ true = ap isReached (run .left ∙ left .same) ∙ reached-of (ends .config) (run .stands) (left .tuples) (left .reach) in
-    false≢true (sym (refused-unreached space room refused) ∙ reached)
+    let end = after-run (run .calls) (fresh-run (ends .config) (run .stands)) in
+    let same : space .config ≡ ends .config = ap (λ (s : Space). s .config) (run .left ∙ end .same) in
+    let other : ends .config .policy ≡ 5 → ⊥ = λ five. refused-unreached space room refused .0 (ap (λ (c : Config). c .policy) same ∙ five) in
+    let left = run-left (ends .config) (run .stands) other (run .calls) typed in
+    let reached : isReached space ≡ true = ap isReached (run .left ∙ left .same) ∙ reached-of (ends .config) (run .stands) other (left .tuples) (left .reach) in
+    false≢true (sym (refused-unreached space room refused .1) ∙ reached)

@@ -1,9 +1,9 @@
--- Document 02, 2.4: the script that a space is written as, whether there is one, and what writing it answers and leaves.
+-- Document 02, 2.4 and 2.7: the script that a space is written as, whether there is one, and what writing it answers and leaves.
 use Prim.Native.Nat.{ℕ, _+_, _*_}
 use mathlib.Core.Bool.{Bool, true, false, cond, _&&_}
 use mathlib.Core.List.{List, [], _∷_, _++_, map}
 use lib.ListN.{length, drop}
-use lib.Dec.{leb}
+use lib.Dec.{leb, eqb}
 use Rattle.dump.specs.Appending.{callOf}
 use Rattle.calls.specs.Turns.{Turn, turns}
 use Rattle.record.specs.declared.writer.Recorded.{Recorded}
@@ -52,14 +52,15 @@ isReached space = allAppended (turns (space .config) (dumpCalls space))
 
 -- ---- the answer and the buffer
 
--- 1 for a space that is not well formed; then 14 for one that this script does not end in, and so none (`UnreachedRule`, `RefusedRule`); then 10, or
--- the script's length
+-- 1 for a space that is not well formed; then 15 under policy 5, of which the writer does not speak; then 14 for one that this script does not end in, and
+-- so none (`UnreachedRule`, `RefusedRule`); then 10, or the script's length
 unfoldable pub writtenOf : Space → ℕ → Recorded
 writtenOf space room =
     cond (wellFormed space)
+    (cond (eqb (space .config .policy) 5) (Unwritten (refusal 15))
     (cond (isReached space)
     (cond (leb (length (dumpBytes space)) room) (Length (length (dumpBytes space))) (Unwritten (refusal 10)))
-    (Unwritten (refusal 14)))
+    (Unwritten (refusal 14))))
     (Unwritten (refusal 1))
 
 -- the script from the first byte on and no byte after it changed, or after a refusal no byte at all

@@ -1,4 +1,4 @@
--- Document 02, 2.4 and 2.6, by examples: the space in which document 01's worked script ends, written as a script, and other spaces, many of which no
+-- Document 02, 2.4, 2.6 and 2.7, by examples: the space in which document 01's worked script ends, written as a script, and other spaces, many of which no
 -- script ends in, as rows of one table with one claim.
 use mathlib.Core.Path.{_≡_}
 use Prim.Native.Nat.{ℕ}
@@ -10,6 +10,7 @@ use Rattle.dump.specs.Laws.{EndsIn}
 use Rattle.record.specs.declared.writer.Recorded.{Recorded}
 use Rattle.record.specs.declared.writer.Recorded.the-variants.{Length, Unwritten}
 use Rattle.space.specs.declared.space.Space.{Space}
+use Rattle.space.specs.Announcements.{announcement}
 use Rattle.space.specs.Lists.{listTuple}
 use Rattle.space.specs.Spaces.{spaceOf}
 use Rattle.tuple.specs.declared.field.Tuple.{Tuple}
@@ -144,6 +145,9 @@ rows =
     ∷ unreached (under 4 (listTuple 1 1 7 0 ∷ []))
     ∷ unreached (under 4 (proposal 0 1 80 ∷ []))
     ∷ unreached (under 4 (decisionEntry 0 80 5 ∷ []))
+    -- under policy 5 no space is written, be it one that calls make
+    ∷ row (under 5 []) (Unwritten (refusal 15))
+    ∷ row (under 5 (listTuple 1 1 7 80 ∷ announcement 2 7 81 ∷ [])) (Unwritten (refusal 15))
     -- not well formed, and so not asked for 14: no policy of this number, and an offset beyond its kind
     ∷ row (under 255 (proposal 0 1 80 ∷ [])) (Unwritten (refusal 1))
     ∷ row (under 2 (proposal 0 1 200_002 ∷ [])) (Unwritten (refusal 1))

@@ -1,4 +1,4 @@
--- The laws of a space that is written as a script, as claims over the definitions, in document 02's words (2.4, and of policy 4 2.6).
+-- The laws of a space that is written as a script, as claims over the definitions, in document 02's words (2.4, of policy 4 2.6, and of policy 5 2.7).
 use mathlib.Core.Path.{_≡_}
 use mathlib.Core.Bool.{Bool, true, false}
 use mathlib.Core.Logic.{_↔_, _⊎_}
@@ -82,12 +82,13 @@ pub record Restored (space : Space) : Type 0 where
   pub runs : ran (dumpBytes space) ≡ Opened (space .config) made Absent space
   pub appends : AppendAll (space .config) (held space) made
 
--- of each well-formed space that is not refused 14, whatever the buffer
+-- of each well-formed space of another policy than 5 that is not refused 14, whatever the buffer
 abbrev pub RestoredRule : Type 0
 RestoredRule =
     (space : Space) (room : ℕ)
     → Typed space
     → wellFormed space ≡ true
+    → (space .config .policy ≡ 5 → ⊥)
     → (writtenOf space room ≡ Unwritten (refusal 14) → ⊥)
     → Restored space
 
@@ -105,12 +106,13 @@ pub record EndsIn (s : List ℕ) (space : Space) : Type 0 where
 abbrev pub UnreachedRule : Type 0
 UnreachedRule = (space : Space) (room : ℕ) (s : List ℕ) → writtenOf space room ≡ Unwritten (refusal 14) → EndsIn s space → ⊥
 
--- and a well-formed space that no script ends in is refused 14, whatever the buffer
+-- and a well-formed space of another policy than 5 that no script ends in is refused 14, whatever the buffer
 abbrev pub RefusedRule : Type 0
 RefusedRule =
     (space : Space) (room : ℕ)
     → Typed space
     → wellFormed space ≡ true
+    → (space .config .policy ≡ 5 → ⊥)
     → ((s : List ℕ) → EndsIn s space → ⊥)
     → writtenOf space room ≡ Unwritten (refusal 14)
 
@@ -119,6 +121,10 @@ RefusedRule =
 -- 1 comes exactly of a space that is not well formed
 abbrev pub UnsoundRule : Type 0
 UnsoundRule = (space : Space) (room : ℕ) → (writtenOf space room ≡ Unwritten (refusal 1)) ↔ (wellFormed space ≡ false)
+
+-- 15 right after it: exactly of a well-formed space under policy 5, whatever the buffer
+abbrev pub UnscriptedRule : Type 0
+UnscriptedRule = (space : Space) (room : ℕ) → (writtenOf space room ≡ Unwritten (refusal 15)) ↔ ((wellFormed space ≡ true) × (space .config .policy ≡ 5))
 
 -- a buffer that was written begins with the script, and no byte behind it has changed
 pub record Stored (space : Space) (buffer : List ℕ) (n : ℕ) : Type 0 where
@@ -145,6 +151,7 @@ AlwaysRoom =
     (space : Space) (room : ℕ)
     → Typed space
     → wellFormed space ≡ true
+    → (space .config .policy ≡ 5 → ⊥)
     → (writtenOf space room ≡ Unwritten (refusal 14) → ⊥)
     → 4_995 ≤ room
     → writtenOf space room ≡ Length (length (dumpBytes space))

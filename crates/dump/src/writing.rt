@@ -1,16 +1,19 @@
 // Writing a space as a script: what it is refused for, then the room, and only then the bytes.
 ghost use mathlib.Core.Path.{_≡_};
-ghost use mathlib.Core.Bool.{true};
+ghost use mathlib.Core.Bool.{true, cond};
 ghost use Prim.Native.Nat.{_+_, _≤_};
 ghost use lib.ListN.{length, replicate};
 ghost use lib.Seq.{sets};
 ghost use Rattle.dump.specs.Dumps.{dumpCalls, dumpMost, writtenOf, leftOf};
 ghost use Rattle.dump.specs.Private.{Dumpable};
 ghost use Rattle.record.specs.Writing.{callBytes};
+ghost use Rattle.record.specs.declared.writer.Recorded.the-variants.{Unwritten};
 ghost use Rattle.script.specs.Scripts.{setUpBytes, recordsBytes};
 ghost use Rattle.space.specs.Configs.{sound};
+ghost use Rattle.space.specs.Spaces.{wellFormed};
 ghost use Rattle.tuple.specs.declared.fault.Fault.the-variants.{Absent};
 ghost use Rattle.tuple.specs.Faults.{callFault};
+ghost use Rattle.tuple.specs.Refusals.{refusal};
 use crate::DUMP_BYTES;
 use crate::appending::call_of;
 use crate::reaching::is_reached;
@@ -21,9 +24,32 @@ use space::Space;
 use tuple::Call;
 use tuple::Refusal;
 
-// Puts a script whose run ends in the space at the start of buffer, and answers its length. Refused 1 if the space is not well formed, then 14 if
-// no script at all ends in it, then 10 if the buffer is shorter.
+// Puts a script whose run ends in the space at the start of buffer, and answers its length. Refused 1 if the space is not well formed, then 15 if its
+// policy is 5, then 14 if no script at all ends in it, then 10 if the buffer is shorter.
 pub fn write(space: Space, buffer: &mut [u8]) -> Recorded
+    ensures { λ r. ⌜ r ≡ writtenOf space (length (now (buffer .entry))) ⌝ }
+    ensures { λ _. ⌜ now (buffer .exit) ≡ leftOf space (now (buffer .entry)) ⌝ }
+{
+    if space.config.policy == 5 {
+        return unscripted(space);
+    }
+    write_script(space, buffer)
+}
+
+// What a space under policy 5 is answered.
+fn unscripted(space: Space) -> Recorded
+    ensures { λ r. ⌜ r ≡ cond (wellFormed space) (Unwritten (refusal 15)) (Unwritten (refusal 1)) ⌝ }
+{
+    if space.is_well_formed() {
+        Recorded::Unwritten(Refusal::Unscripted)
+    } else {
+        Recorded::Unwritten(Refusal::Unsound)
+    }
+}
+
+// Under the other policies.
+fn write_script(space: Space, buffer: &mut [u8]) -> Recorded
+    requires { ⌜ (space .config .policy ≡ 5 → ⊥) ⌝ }
     ensures { λ r. ⌜ r ≡ writtenOf space (length (now (buffer .entry))) ⌝ }
     ensures { λ _. ⌜ now (buffer .exit) ≡ leftOf space (now (buffer .entry)) ⌝ }
 {

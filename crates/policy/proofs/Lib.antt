@@ -1,3 +1,4 @@
+pub mod AnnouncingLaws
 pub mod DecisionLaws
 pub mod ListingLaws
 pub mod PolicyLaws

@@ -1,4 +1,4 @@
--- Policy 4 permits exactly what the words of document 02 say, and a template of a position matches exactly the list tuples there.
+-- Policies 4 and 5: what their cas have in common, what policy 4 permits in the words of document 02, and that a template of a position matches exactly the list tuples there.
 use mathlib.Core.Path.{_≡_, refl, sym, ap, _∙_}
 use mathlib.Core.Logic.{_↔_, _⊎_, inl, inr, ⊎-elim}
 use mathlib.Core.Bool.{true, false, false≢true, not, _&&_, _||_, or-true, and-eq-true-iff}
@@ -10,22 +10,23 @@ use lib.Dec.{leb, eqb}
 use borrow.Author.Tests.{leb-true, leb-false, eqb-true, eqb-false, not-true, le-leb, eq-eqb, ne-eqb}
 use borrow.Table.Steps.{cases}
 use Rattle.policy.specs.declared.verdicts.Verdict.the-variants.{Permit}
-use Rattle.policy.specs.Laws.{ListTemplateRule, ListTemplateMade, ListCall, ListRule, ListDenied}
-use Rattle.policy.specs.Listing.{isListTemplate, listTemplate, positions, samePosition, isShift, isListCall, isNew, begins, follows, isOwn, mayList, shared}
+use Rattle.policy.specs.Laws.{ListTemplateRule, ListTemplateMade, ListCall, ListRdpRule, ListRule, ListDenied}
+use Rattle.policy.specs.Listing.{isListTemplate, listTemplate, positions, samePosition, isShift, isListCall, isNew, begins, follows, owed, isOwn, isDue, mayList, mayAnnounce, mayTakeOff, shared}
 use Rattle.policy.specs.Policies.{verdictOn}
 use Rattle.policy.proofs.DecisionLaws.{said}
 use Rattle.policy.proofs.PolicyLaws.{demanded, under-shared, otherwise-rule}
-use Rattle.space.specs.Configs.{hasProposals}
+use Rattle.space.specs.declared.config.Config.{Config}
+use Rattle.space.specs.Configs.{hasProposals, hasList}
 use Rattle.space.specs.Lists.{isListTuple, positionOf, serialOf, shiftCode, isFilled, isListed, Filled, Listed}
 use Rattle.space.specs.Shapes.{processOf}
-use Rattle.space.proofs.ConfigLaws.{proposals-deciding}
+use Rattle.space.proofs.ConfigLaws.{proposals-deciding, has-list-rule}
 use Rattle.space.proofs.ListLaws.{list-parts, filled-rule, listed-rule}
 use Rattle.space.proofs.ShapeLaws.{four, within-fields}
 use Rattle.tuple.specs.declared.field.Field.{Field}
 use Rattle.tuple.specs.declared.field.Tuple.{Tuple}
 use Rattle.tuple.specs.declared.field.Call.{Call}
 use Rattle.tuple.specs.Faults.{restFrom, restBlank}
-use Rattle.tuple.specs.Fields.{word, count, offset, defined, wildcard, formal, rdp, cas, listing, blankField}
+use Rattle.tuple.specs.Fields.{word, count, offset, defined, wildcard, formal, out, rdp, inp, cas, listing, blankField}
 use Rattle.tuple.specs.Laws.{FieldMatch}
 use Rattle.tuple.specs.Matching.{fieldMatches, matches}
 use Rattle.tuple.specs.Offsets.{bottom}
@@ -182,14 +183,15 @@ follows-rule tuples entry first =
       ⊎-elim (λ is. rw (one .1 is)) (λ f. rw (rule .1 f, or-true)),
     )
 
-pub may-list-rule : (tuples : List Tuple) (call : Call) → (mayList tuples call ≡ true) ↔ (ListCall tuples call × (processOf (call .entry) ≡ call .process))
+-- what is common to both policies, and what is due
+pub may-list-rule : (config : Config) (tuples : List Tuple) (call : Call) → (mayList config tuples call ≡ true) ↔ (ListCall tuples call × (isDue config tuples call ≡ true))
 unfolding mayList isListCall
-may-list-rule tuples call =
+may-list-rule config tuples call =
     let entry = call .entry in
     let position = same-position (call .template) entry in
     let new = new-rule tuples entry in (
       λ h.
-          let tests = four (isListCall call) (isOwn call) (isNew tuples entry) (follows tuples entry) h in
+          let tests = four (isListCall call) (isDue config tuples call) (isNew tuples entry) (follows tuples entry) h in
           let shapes = four (isListTemplate (call .template)) (isListTuple entry) (samePosition (call .template) entry) (isShift (shiftCode entry)) (tests .0) in
           let on = position .0 (shapes .2) in (
             record {
@@ -202,7 +204,7 @@ may-list-rule tuples call =
               unlisted = new .0 (tests .2);
               follows = follows-rule tuples entry (on .1) .0 (tests .3);
             },
-            eqb-true _ _ (tests .1),
+            tests .1,
           ),
       λ p. let c = p .0 in
           rw (
@@ -210,28 +212,57 @@ may-list-rule tuples call =
             c .entry,
             position .1 (c .same, c .first, c .most),
             shift-rule (shiftCode entry) .1 (c .some),
-            eq-eqb (processOf entry) (call .process) (p .1),
+            p .1,
             new .1 (c .unlisted),
             follows-rule tuples entry (c .first) .1 (c .follows),
           ),
     )
 
-pub list-rule : ListRule
+-- a cas under either policy
+pub cas-permitted : (config : Config) (tuples : List Tuple) (call : Call) → hasList config ≡ true → call .code ≡ cas
+    → (verdictOn config tuples call ≡ Permit) ↔ (ListCall tuples call × (isDue config tuples call ≡ true))
 unfolding shared
+cas-permitted config tuples call lists e =
+    let rule = may-list-rule config tuples call in
+    rw (under-shared config tuples call lists, ne-eqb (call .code) rdp (λ z. omega arith), eq-eqb (call .code) cas e) (
+      λ h. rule .0 (demanded (mayList config tuples call) (refusal 7) Permit h .0),
+      λ p. rw (rule .1 p),
+    )
+
+-- under policy 4 nothing is owed
+pub nothing-owed : (config : Config) (tuples : List Tuple) (call : Call) → config .policy ≡ 4 → isDue config tuples call ≡ isOwn call
+unfolding isDue owed
+nothing-owed config tuples call is-four = rw (ne-eqb (config .policy) 5 (λ five. omega arith))
+
+pub list-rdp-rule : ListRdpRule
+unfolding shared
+list-rdp-rule config tuples call lists e = rw (under-shared config tuples call lists, eq-eqb (call .code) rdp e)
+
+pub list-rule : ListRule
+unfolding shared mayAnnounce mayTakeOff
 list-rule config tuples call is-four =
-    let rule = may-list-rule tuples call in
-    rw (under-shared config tuples call is-four) (
+    let lists = has-list-rule config .1 (inl is-four) in
+    let other = ne-eqb (config .policy) 5 (λ five. omega arith) in
+    let own = nothing-owed config tuples call is-four in (
       λ h. cases (eqb (call .code) rdp)
           (λ a. inl (eqb-true _ _ a))
           (λ a. cases (eqb (call .code) cas)
-          (λ b. let passed = rule .0 (demanded (mayList tuples call) (refusal 7) Permit (rw (a, b) at h) .0) in inr (eqb-true _ _ b, passed .0, passed .1))
-          (λ b. let refused = rw (a, b) at h in let z : _≡_ {A = ℕ} 0 1 = cc in absurd (omega arith))),
+          (λ b. let is = eqb-true _ _ b in
+          let passed = cas-permitted config tuples call lists is .0 h in
+          inr (is, passed .0, eqb-true _ _ (sym own ∙ passed .1)))
+          (λ b. let refused = rw (under-shared config tuples call lists, a, b, other) at h in
+          cases (eqb (call .code) out)
+          (λ c. let z = rw c at refused in let w : _≡_ {A = ℕ} 0 1 = cc in absurd (omega arith))
+          (λ c. cases (eqb (call .code) inp)
+          (λ d. let z = rw (c, d) at refused in let w : _≡_ {A = ℕ} 0 1 = cc in absurd (omega arith))
+          (λ d. let z = rw (c, d) at refused in let w : _≡_ {A = ℕ} 0 1 = cc in absurd (omega arith))))),
       ⊎-elim
-          (λ a. rw (eq-eqb (call .code) rdp a))
-          (λ p. rw (ne-eqb (call .code) rdp (λ e. omega (arith, p .0)), eq-eqb (call .code) cas (p .0), rule .1 (p .1, p .2))),
+          (λ a. list-rdp-rule config tuples call lists a)
+          (λ p. cas-permitted config tuples call lists (p .0) .1 (p .1, own ∙ eq-eqb _ _ (p .2))),
     )
 
 pub list-denied : ListDenied
-list-denied config tuples call is-four forbidden =
-    let other : hasProposals config ≡ true → ⊥ = λ rests. omega (arith, proposals-deciding config rests) in
+list-denied config tuples call lists forbidden =
+    let other : hasProposals config ≡ true → ⊥ =
+    λ rests. ⊎-elim (λ four. omega (arith, proposals-deciding config rests)) (λ five. omega (arith, proposals-deciding config rests)) (has-list-rule config .0 lists) in
     otherwise-rule config tuples call .1 (record { forbidden = forbidden; first = λ s. other (s .policy); borne = λ u. other (u .policy) })

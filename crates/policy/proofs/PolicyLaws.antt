@@ -15,7 +15,7 @@ use Rattle.policy.specs.Justified.{isOwnProposal, isFree, outVerdict, is
 use Rattle.policy.specs.Default.{bearsBottom}
 use Rattle.policy.specs.Laws.{Denial, VerdictRule, SecondProposal, SecondRule, Unborne, UnborneRule, OtherwiseRule, UnknownRule, BoundedRule, BareRule, WeakRule, OutRule, RdpRule, InpRule, DecisionCall, BearsOffset, BearsBottom, CasOffsetRule, CasBottomRule, CasChoiceRule}
 use Rattle.policy.specs.Laws.Denial.{denied, second, unborne}
-use Rattle.policy.specs.Listing.{mayList, shared}
+use Rattle.policy.specs.Listing.{mayList, mayAnnounce, mayTakeOff, shared}
 use Rattle.policy.specs.Policies.{verdictOn, verdict}
 use Rattle.policy.specs.Shapes.{sameRound, isWeakTemplate, isWeakEntry, isDecisionTemplate, isDecision, decidedCode, setOf}
 use Rattle.policy.specs.Verdicts.{demand}
@@ -23,19 +23,19 @@ use Rattle.policy.specs.Weak.{isWeakCall, weak}
 use Rattle.space.specs.declared.config.Config.{Config}
 use Rattle.space.specs.declared.proposal.Sought.the-variants.{One, Some, Any}
 use Rattle.space.specs.Bounds.{rounds}
-use Rattle.space.specs.Configs.{hasProposals}
+use Rattle.space.specs.Configs.{hasProposals, hasList}
 use Rattle.space.specs.Members.{within}
 use Rattle.space.specs.Proposals.{offered, decidable, proposed, everyProposed, crowded, Placed}
 use Rattle.space.specs.Shapes.{isProposal, roundOf, inRounds, processOf, proposedCode}
 use Rattle.space.proofs.CodeLaws.{offered-some}
-use Rattle.space.proofs.ConfigLaws.{proposals-rule, proposals-some}
+use Rattle.space.proofs.ConfigLaws.{proposals-rule, proposals-some, proposals-deciding, has-list-rule}
 use Rattle.space.proofs.MemberLaws.{within-rule, every-member}
 use Rattle.space.proofs.ProposalLaws.{offered-alone, proposed-rules, crowded-rule, backers-rule}
 use Rattle.space.proofs.ShapeLaws.{four}
 use Rattle.tuple.specs.declared.field.Tuple.{Tuple}
 use Rattle.tuple.specs.declared.field.Call.{Call}
 use Rattle.tuple.specs.declared.refusal.Refusal.{Refusal}
-use Rattle.tuple.specs.Fields.{out, rdp, cas}
+use Rattle.tuple.specs.Fields.{out, rdp, inp, cas}
 use Rattle.tuple.specs.Offsets.{bottom}
 use Rattle.tuple.specs.Refusals.{refusal}
 
@@ -53,7 +53,7 @@ unfolding verdict
 bounded-rule space call out-of = rw out-of
 
 pub unknown-rule : UnknownRule
-unfolding verdictOn hasProposals
+unfolding verdictOn hasProposals hasList
 unknown-rule config tuples call above =
     rw (
       ne-eqb (config .policy) 0 (λ e. omega arith),
@@ -61,6 +61,7 @@ unknown-rule config tuples call above =
       ne-eqb (config .policy) 2 (λ e. omega arith),
       ne-eqb (config .policy) 3 (λ e. omega arith),
       ne-eqb (config .policy) 4 (λ e. omega arith),
+      ne-eqb (config .policy) 5 (λ e. omega arith),
     )
 
 pub bare-rule : BareRule
@@ -78,9 +79,13 @@ module _ (config : Config) (tuples : List Tuple) (call : Call) where
       let two = proposals-some config rests in
       rw (ne-eqb (config .policy) 0 (λ e. omega arith), ne-eqb (config .policy) 1 (λ e. omega arith), rests)
 
-  pub under-shared : config .policy ≡ 4 → verdictOn config tuples call ≡ shared tuples call
-  unfolding verdictOn hasProposals
-  under-shared four = rw four
+  pub under-shared : hasList config ≡ true → verdictOn config tuples call ≡ shared config tuples call
+  unfolding verdictOn
+  under-shared lists =
+      let number = has-list-rule config .0 lists in
+      let late : 4 ≤ config .policy = ⊎-elim (λ four. omega arith) (λ five. omega arith) number in
+      let other : hasProposals config ≡ false = cases (hasProposals config) (λ e. absurd (omega (arith, proposals-deciding config e))) (λ e. e) in
+      rw (ne-eqb (config .policy) 0 (λ e. omega arith), ne-eqb (config .policy) 1 (λ e. omega arith), other, lists)
 
 -- ---- policy 1
 
@@ -114,12 +119,13 @@ unfolding justified
 rdp-rule config tuples call rests e = rw (under-justified config tuples call rests, e)
 
 pub inp-rule : InpRule
-unfolding verdictOn weak isWeakCall justified shared
-inp-rule config tuples call some e =
+unfolding verdictOn weak isWeakCall justified shared mayTakeOff
+inp-rule config tuples call some most e =
     let none = ne-eqb (config .policy) 0 (λ z. omega arith) in
+    let early = ne-eqb (config .policy) 5 (λ z. omega arith) in
     cases (eqb (config .policy) 1) (λ one. rw (none, one, e))
     (λ other. cases (hasProposals config) (λ rests. rw (none, other, rests, e))
-    (λ more. cases (eqb (config .policy) 4) (λ four. rw (none, other, more, four, e)) (λ last. rw (none, other, more, last))))
+    (λ more. cases (hasList config) (λ lists. rw (none, other, more, lists, e, early)) (λ last. rw (none, other, more, last))))
 
 free-rule : (config : Config) (tuples : List Tuple) (entry : Tuple) → (isFree config tuples entry ≡ true) ↔ (Placed tuples (roundOf entry) (processOf entry) → ⊥)
 unfolding isFree
@@ -289,13 +295,15 @@ module _ (config : Config) (tuples : List Tuple) (call : Call) where
       }))))
       (λ other. rw other denies)
 
-  shared-cause : Cause config tuples call (shared tuples call)
+  shared-cause : Cause config tuples call (shared config tuples call)
   unfolding shared
   shared-cause =
+      let tested : (test : Bool) → Cause config tuples call (demand test (refusal 7) Permit) = λ test. cases test (λ e. rw e permits) (λ e. rw e denies) in
       cases (eqb (call .code) rdp) (λ a. rw a permits)
-      (λ a. cases (eqb (call .code) cas)
-      (λ b. cases (mayList tuples call) (λ c. rw (a, b, c) permits) (λ c. rw (a, b, c) denies))
-      (λ b. rw (a, b) denies))
+      (λ a. cases (eqb (call .code) cas) (λ b. rw (a, b) (tested (mayList config tuples call)))
+      (λ b. cases (eqb (call .code) out) (λ c. rw (a, b, c) (tested (mayAnnounce config tuples call)))
+      (λ c. cases (eqb (call .code) inp) (λ d. rw (a, b, c, d) (tested (mayTakeOff config call)))
+      (λ d. rw (a, b, c, d) denies))))
 
   cause : Cause config tuples call (verdictOn config tuples call)
   unfolding verdictOn weak justified
@@ -311,7 +319,7 @@ module _ (config : Config) (tuples : List Tuple) (call : Call) where
       (λ d. cases (eqb (call .code) cas)
       (λ e. rw (a, b, rests, c, d, e) (cas-cause rests (eqb-true (call .code) cas e)))
       (λ e. rw (a, b, rests, c, d, e) denies))))
-      (λ rests. cases (eqb (config .policy) 4) (λ c. rw (a, b, rests, c) shared-cause) (λ c. rw (a, b, rests, c) denies))))
+      (λ rests. cases (hasList config) (λ c. rw (a, b, rests, c) shared-cause) (λ c. rw (a, b, rests, c) denies))))
 
 -- permitted, or refused by one of the three
 abbrev Ruled : Verdict → Type 0

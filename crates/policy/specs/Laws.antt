@@ -3,17 +3,18 @@ use mathlib.Core.Path.{_≡_}
 use mathlib.Core.Logic.{_↔_, _⊎_}
 use mathlib.Core.Bool.{true, false}
 use mathlib.Core.List.{List}
-use Prim.Native.Nat.{ℕ, _+_, _-_, _≤_, _<_}
+use Prim.Native.Nat.{ℕ, _+_, _-_, _%_, _≤_, _<_}
 use lib.Count.{ones}
 use lib.ListN.{length}
 use Rattle.policy.specs.declared.verdicts.Verdict.the-variants.{Permit, Refuse}
-use Rattle.policy.specs.Listing.{isListTemplate, listTemplate}
+use Rattle.policy.specs.Listing.{isListTemplate, listTemplate, preferred}
 use Rattle.policy.specs.Policies.{verdictOn, verdict}
 use Rattle.policy.specs.Shapes.{isWeakTemplate, isWeakEntry, isDecisionTemplate, isDecision, decidedCode, setOf}
 use Rattle.space.specs.declared.config.Config.{Config}
 use Rattle.space.specs.declared.space.Space.{Space}
 use Rattle.space.specs.Bounds.{rounds}
-use Rattle.space.specs.Configs.{hasProposals}
+use Rattle.space.specs.Configs.{hasProposals, hasList}
+use Rattle.space.specs.Announcements.{isAnnouncement, announcerOf, Announcing, Oldest}
 use Rattle.space.specs.Lists.{isListTuple, positionOf, serialOf, shiftCode, Filled, Listed}
 use Rattle.space.specs.Members.{Member}
 use Rattle.space.specs.Proposals.{offered, decidable, Placed, Proposed}
@@ -49,7 +50,7 @@ BoundedRule = (space : Space) (call : Call) → bounded space ≡ false → verd
 
 -- a number that is no policy's permits nothing
 abbrev pub UnknownRule : Type 0
-UnknownRule = (config : Config) (tuples : List Tuple) (call : Call) → 4 < config .policy → verdictOn config tuples call ≡ Refuse (refusal 7)
+UnknownRule = (config : Config) (tuples : List Tuple) (call : Call) → 5 < config .policy → verdictOn config tuples call ≡ Refuse (refusal 7)
 
 -- ---- policy 0: all calls
 
@@ -92,7 +93,12 @@ RdpRule = (config : Config) (tuples : List Tuple) (call : Call) → hasProposals
 
 -- inp never, nor under policies 1 and 4
 abbrev pub InpRule : Type 0
-InpRule = (config : Config) (tuples : List Tuple) (call : Call) → 1 ≤ config .policy → call .code ≡ inp → verdictOn config tuples call ≡ Refuse (refusal 7)
+InpRule =
+    (config : Config) (tuples : List Tuple) (call : Call)
+    → 1 ≤ config .policy
+    → config .policy ≤ 4
+    → call .code ≡ inp
+    → verdictOn config tuples call ≡ Refuse (refusal 7)
 
 -- cas only with the two shapes, on one round 0 to 7, with all of the set in 1 to n, of what may be decided
 pub record DecisionCall (config : Config) (call : Call) : Type 0 where
@@ -143,7 +149,7 @@ CasChoiceRule =
     → (decidedCode (call .entry) ≡ bottom) ⊎ (offered config (decidedCode (call .entry)) ≡ false)
     → verdictOn config tuples call ≡ Refuse (refusal 7)
 
--- ---- policy 4
+-- ---- policies 4 and 5
 
 -- five fields: the word 3 and the position given, the next two counts of state any, and the offset open (kinds 1, 2 and 3; states 0, 1 and 2)
 pub record ListTemplate (template : Tuple) (position : ℕ) : Type 0 where
@@ -177,6 +183,20 @@ pub record ListCall (tuples : List Tuple) (call : Call) : Type 0 where
   pub unlisted : Listed tuples (processOf (call .entry)) (serialOf (call .entry)) → ⊥
   pub follows : (positionOf (call .entry) ≡ 1) ⊎ Filled tuples (positionOf (call .entry) - 1)
 
+-- rdp is always permitted
+abbrev pub ListRdpRule : Type 0
+ListRdpRule = (config : Config) (tuples : List Tuple) (call : Call) → hasList config ≡ true → call .code ≡ rdp → verdictOn config tuples call ≡ Permit
+
+-- 7 covers all that is not
+abbrev pub ListDenied : Type 0
+ListDenied =
+    (config : Config) (tuples : List Tuple) (call : Call)
+    → hasList config ≡ true
+    → (verdictOn config tuples call ≡ Permit → ⊥)
+    → verdictOn config tuples call ≡ Refuse (refusal 7)
+
+-- ---- policy 4 alone
+
 -- rdp, whatever its template, and such a cas of the caller's own number; nothing else
 abbrev pub ListRule : Type 0
 ListRule =
@@ -185,13 +205,71 @@ ListRule =
     → (verdictOn config tuples call ≡ Permit)
     ↔ ((call .code ≡ rdp) ⊎ ((call .code ≡ cas) × ListCall tuples call × (processOf (call .entry) ≡ call .process)))
 
--- 7 covers all else
-abbrev pub ListDenied : Type 0
-ListDenied =
+-- ---- policy 5 alone
+
+-- the preferred process of a position is the remainder of the position by n, and process n when that is zero
+pub record Preferred (n position process : ℕ) : Type 0 where
+  pub remainder : (position % n ≡ 0 → ⊥) → process ≡ position % n
+  pub whole : position % n ≡ 0 → process ≡ n
+
+abbrev pub PreferredRule : Type 0
+PreferredRule = (n position : ℕ) → Preferred n position (preferred n position)
+
+-- out only of an announcement of the caller's own number, while none of its own stands
+pub record OwnAnnouncement (tuples : List Tuple) (call : Call) : Type 0 where
+  pub shape : isAnnouncement (call .entry) ≡ true
+  pub own : announcerOf (call .entry) ≡ call .process
+  pub none : Announcing tuples (call .process) → ⊥
+
+abbrev pub AnnounceRule : Type 0
+AnnounceRule =
     (config : Config) (tuples : List Tuple) (call : Call)
-    → config .policy ≡ 4
-    → (verdictOn config tuples call ≡ Permit → ⊥)
-    → verdictOn config tuples call ≡ Refuse (refusal 7)
+    → config .policy ≡ 5
+    → call .code ≡ out
+    → (verdictOn config tuples call ≡ Permit) ↔ OwnAnnouncement tuples call
+
+-- inp only with a template of four fields: the word 4 and the caller's own number given, a count and an offset, each of state any or open (1 or 2)
+pub record TakesOff (call : Call) : Type 0 where
+  pub four : call .template .count ≡ 4
+  pub first : field (call .template) 0 ≡ record { kind = 1; state = 0; value = 4 }
+  pub second : field (call .template) 1 ≡ record { kind = 2; state = 0; value = call .process }
+  pub third : (field (call .template) 2 .kind ≡ 2) × ((field (call .template) 2 .state ≡ 1) ⊎ (field (call .template) 2 .state ≡ 2))
+  pub fourth : (field (call .template) 3 .kind ≡ 3) × ((field (call .template) 3 .state ≡ 1) ⊎ (field (call .template) 3 .state ≡ 2))
+
+abbrev pub TakeOffRule : Type 0
+TakeOffRule =
+    (config : Config) (tuples : List Tuple) (call : Call)
+    → config .policy ≡ 5
+    → call .code ≡ inp
+    → (verdictOn config tuples call ≡ Permit) ↔ TakesOff call
+
+-- a cas may list the process, serial and shift of the preferred process's oldest announcement, whoever calls
+pub record Helps (config : Config) (tuples : List Tuple) (call : Call) : Type 0 where
+  pub by : processOf (call .entry) ≡ preferred (config .n) (positionOf (call .entry))
+  pub oldest : Oldest tuples (preferred (config .n) (positionOf (call .entry))) (serialOf (call .entry)) (shiftCode (call .entry))
+
+-- or the caller's own, if there is none or its process and serial are already listed
+pub record Alone (config : Config) (tuples : List Tuple) (call : Call) : Type 0 where
+  pub own : processOf (call .entry) ≡ call .process
+  pub free : (Announcing tuples (preferred (config .n) (positionOf (call .entry))) → ⊥)
+      ⊎ ((serial : ℕ) × (code : ℕ)
+      × Oldest tuples (preferred (config .n) (positionOf (call .entry))) serial code
+      × Listed tuples (preferred (config .n) (positionOf (call .entry))) serial)
+
+abbrev pub HelpRule : Type 0
+HelpRule =
+    (config : Config) (tuples : List Tuple) (call : Call)
+    → config .policy ≡ 5
+    → call .code ≡ cas
+    → (verdictOn config tuples call ≡ Permit) ↔ (ListCall tuples call × (Helps config tuples call ⊎ Alone config tuples call))
+
+-- and nothing else is permitted under policy 5
+abbrev pub AnnouncingOnly : Type 0
+AnnouncingOnly =
+    (config : Config) (tuples : List Tuple) (call : Call)
+    → config .policy ≡ 5
+    → verdictOn config tuples call ≡ Permit
+    → (call .code ≡ rdp) ⊎ ((call .code ≡ cas) ⊎ ((call .code ≡ out) ⊎ (call .code ≡ inp)))
 
 -- ---- why a call is not permitted
 

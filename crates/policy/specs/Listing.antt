@@ -1,16 +1,21 @@
--- Document 02, 2.6: policy 4, a list of shifts that all processes share, on the tuples that the space holds.
-use Prim.Native.Nat.{ℕ, _-_}
-use mathlib.Core.Bool.{Bool, cond, not, _&&_, _||_}
+-- Document 02, 2.6 and 2.7: policies 4 and 5, a list of shifts that all processes share, under 5 with announcements, on the tuples that the space holds.
+use Prim.Native.Nat.{ℕ, _-_, _%_}
+use mathlib.Core.Bool.{Bool, true, false, cond, not, _&&_, _||_}
 use mathlib.Core.List.{List, [], _∷_}
 use lib.Dec.{leb, eqb}
 use Rattle.policy.specs.declared.verdicts.Verdict.{Verdict}
 use Rattle.policy.specs.declared.verdicts.Verdict.the-variants.{Permit, Refuse}
 use Rattle.policy.specs.Verdicts.{demand}
+use Rattle.space.specs.declared.announcement.Announced.{Announced}
+use Rattle.space.specs.declared.announcement.Announced.the-variants.{Waits, Silent}
+use Rattle.space.specs.declared.config.Config.{Config}
+use Rattle.space.specs.Announcements.{isAnnouncement, announcerOf, announcedOf}
 use Rattle.space.specs.Lists.{isListTuple, positionOf, serialOf, shiftCode, isFilled, isListed}
 use Rattle.space.specs.Shapes.{processOf}
+use Rattle.tuple.specs.declared.field.Field.{Field}
 use Rattle.tuple.specs.declared.field.Tuple.{Tuple}
 use Rattle.tuple.specs.declared.field.Call.{Call}
-use Rattle.tuple.specs.Fields.{word, count, offset, defined, wildcard, formal, rdp, cas, listing, blankField}
+use Rattle.tuple.specs.Fields.{word, count, offset, defined, wildcard, formal, out, rdp, inp, cas, listing, announcing, blankField}
 use Rattle.tuple.specs.Offsets.{bottom}
 use Rattle.tuple.specs.Refusals.{refusal}
 use Rattle.tuple.specs.Shapes.{given, undefined, field, is, says}
@@ -69,17 +74,71 @@ begins position = leb position 1
 unfoldable pub follows : List Tuple → Tuple → Bool
 follows tuples entry = begins (positionOf entry) || isFilled tuples (positionOf entry - 1)
 
+-- ---- whose entry it may be
+
+-- the preferred process of a position: the remainder of the position by n, and n where that is zero
+unfoldable pub preferred : ℕ → ℕ → ℕ
+preferred n position = cond (eqb (position % n) 0) n (position % n)
+
+-- an announcement of a process waits while its serial is not listed
+abbrev pub waiting : List Tuple → ℕ → Announced → Announced
+waiting tuples process Silent = Silent
+waiting tuples process (Waits serial code) = cond (isListed tuples process serial) Silent (Waits serial code)
+
+-- what is owed at a position: under policy 5 the oldest announcement of its preferred process, if that waits; under policy 4 nothing ever is
+unfoldable pub owed : Config → List Tuple → ℕ → Announced
+owed config tuples position =
+    cond (eqb (config .policy) 5) (waiting tuples (preferred (config .n) position) (announcedOf tuples (preferred (config .n) position))) Silent
+
 -- the entry is of the caller's own number
 abbrev pub isOwn : Call → Bool
 isOwn call = eqb (processOf (call .entry)) (call .process)
 
-unfoldable pub mayList : List Tuple → Call → Bool
-mayList tuples call = isListCall call && isOwn call && isNew tuples (call .entry) && follows tuples (call .entry)
+-- what is owed, by any caller; or, where nothing is, an entry of the caller's own number
+abbrev pub isDueBy : ℕ → Call → Announced → Bool
+isDueBy process call Silent = isOwn call
+isDueBy process call (Waits serial code) = eqb (processOf (call .entry)) process && eqb (serialOf (call .entry)) serial && eqb (shiftCode (call .entry)) code
+
+unfoldable pub isDue : Config → List Tuple → Call → Bool
+isDue config tuples call = isDueBy (preferred (config .n) (positionOf (call .entry))) call (owed config tuples (positionOf (call .entry)))
+
+unfoldable pub mayList : Config → List Tuple → Call → Bool
+mayList config tuples call = isListCall call && isDue config tuples call && isNew tuples (call .entry) && follows tuples (call .entry)
+
+-- ---- out and inp, under policy 5
+
+abbrev pub isSilent : Announced → Bool
+isSilent (Waits serial code) = false
+isSilent Silent = true
+
+-- an announcement of the caller's own number, while none of its own stands
+unfoldable pub mayAnnounce : Config → List Tuple → Call → Bool
+mayAnnounce config tuples call =
+    eqb (config .policy) 5
+    && isAnnouncement (call .entry)
+    && eqb (announcerOf (call .entry)) (call .process)
+    && isSilent (announcedOf tuples (call .process))
+
+-- it has this kind, and no value: its state is any or open
+abbrev pub isUndefined : ℕ → Field → Bool
+isUndefined kind f = is kind wildcard f || is kind formal f
+
+-- word 4 and the caller's own number given, the other two undefined
+unfoldable pub mayTakeOff : Config → Call → Bool
+mayTakeOff config call =
+    eqb (config .policy) 5
+    && eqb (call .template .count) 4
+    && says word announcing (field (call .template) 0)
+    && says count (call .process) (field (call .template) 1)
+    && isUndefined count (field (call .template) 2)
+    && isUndefined offset (field (call .template) 3)
 
 -- ---- by the call
 
--- rdp is always permitted, out and inp never
-unfoldable pub shared : List Tuple → Call → Verdict
-shared tuples call =
+-- rdp is always permitted; out and inp only under policy 5
+unfoldable pub shared : Config → List Tuple → Call → Verdict
+shared config tuples call =
     cond (eqb (call .code) rdp) Permit
-    (cond (eqb (call .code) cas) (demand (mayList tuples call) (refusal 7) Permit) (Refuse (refusal 7)))
+    (cond (eqb (call .code) cas) (demand (mayList config tuples call) (refusal 7) Permit)
+    (cond (eqb (call .code) out) (demand (mayAnnounce config tuples call) (refusal 7) Permit)
+    (cond (eqb (call .code) inp) (demand (mayTakeOff config call) (refusal 7) Permit) (Refuse (refusal 7)))))

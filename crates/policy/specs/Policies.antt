@@ -1,4 +1,4 @@
--- Document 01, "Policies", and document 02, 2.1 and 2.6: the verdict of a space's policy on a call, by the policy's number.
+-- Document 01, "Policies", and document 02, 2.1, 2.6 and 2.7: the verdict of a space's policy on a call, by the policy's number.
 use mathlib.Core.Bool.{cond}
 use mathlib.Core.List.{List}
 use lib.Dec.{eqb}
@@ -10,19 +10,19 @@ use Rattle.policy.specs.Verdicts.{demand}
 use Rattle.policy.specs.Weak.{weak}
 use Rattle.space.specs.declared.config.Config.{Config}
 use Rattle.space.specs.declared.space.Space.{Space}
-use Rattle.space.specs.Configs.{hasProposals}
+use Rattle.space.specs.Configs.{hasProposals, hasList}
 use Rattle.space.specs.Spaces.{held, bounded}
 use Rattle.tuple.specs.declared.field.Tuple.{Tuple}
 use Rattle.tuple.specs.declared.field.Call.{Call}
 use Rattle.tuple.specs.Refusals.{refusal}
 
--- on the tuples that the space holds: 0, bare, permits all; 1 is weak, 2 and 3 rest on proposals, 4 has the shared list; no other number permits anything
+-- on the tuples that the space holds: 0, bare, permits all; 1 is weak, 2 and 3 rest on proposals, 4 and 5 have the shared list; no other number permits anything
 unfoldable pub verdictOn : Config → List Tuple → Call → Verdict
 verdictOn config tuples call =
     cond (eqb (config .policy) 0) Permit
     (cond (eqb (config .policy) 1) (weak call)
     (cond (hasProposals config) (justified config tuples call)
-    (cond (eqb (config .policy) 4) (shared tuples call) (Refuse (refusal 7)))))
+    (cond (hasList config) (shared config tuples call) (Refuse (refusal 7)))))
 
 -- on a space whose configuration or count is out of bounds it is 1
 unfoldable pub verdict : Space → Call → Verdict

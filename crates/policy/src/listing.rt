@@ -1,20 +1,34 @@
-// Policy 4: a list of shifts that all processes share.
+// Policies 4 and 5: a list of shifts that all processes share, under 5 with announcements.
 ghost use mathlib.Core.Path.{_≡_};
-ghost use Rattle.policy.specs.Listing.{isListTemplate, samePosition, isListCall, isNew, follows as follows·, mayList, shared as shared·};
+ghost use mathlib.Core.Bool.{true, cond, _&&_};
+ghost use Rattle.policy.specs.declared.verdicts.Verdict.the-variants.{Permit};
+ghost use Rattle.policy.specs.Listing.{isListTemplate, samePosition, isListCall, isNew, follows as follows·, preferred as preferred·, owed as owed·, isDue, mayList, isSilent, mayAnnounce, isUndefined, mayTakeOff, shared as shared·};
+ghost use Rattle.policy.specs.Verdicts.{demand};
+ghost use Rattle.space.specs.declared.announcement.Announced.the-variants.{Waits, Silent};
+ghost use Rattle.space.specs.Configs.{sound};
 ghost use Rattle.space.specs.Spaces.{held};
+ghost use Rattle.tuple.specs.Refusals.{refusal};
 use crate::verdicts::Verdict;
+use space::Announced;
+use space::Config;
 use space::Space;
+use space::is_announcement;
 use space::is_filled;
 use space::is_list_tuple;
 use space::is_listed;
+use space::oldest_announced;
+use tuple::ANNOUNCING;
 use tuple::BOTTOM;
 use tuple::CAS;
 use tuple::COUNT;
 use tuple::Call;
 use tuple::DEFINED;
 use tuple::FORMAL;
+use tuple::Field;
+use tuple::INP;
 use tuple::LISTING;
 use tuple::OFFSET;
+use tuple::OUT;
 use tuple::RDP;
 use tuple::Refusal;
 use tuple::Tuple;
@@ -28,34 +42,50 @@ use tuple::says;
 // The positions of the list are 1 to this.
 const POSITIONS: u64 = 112;
 
-// The verdict of policy 4, after Fig. 7.
+// The verdict of policies 4, after Fig. 7, and 5, after Fig. 8.
 pub(crate) fn shared(space: Space, call: Call) -> Verdict
-    ensures { λ r. ⌜ r ≡ shared· (held space) call ⌝ }
+    requires { ⌜ sound (space .config) ≡ true ⌝ }
+    ensures { λ r. ⌜ r ≡ shared· (space .config) (held space) call ⌝ }
 {
+    let config = space.config;
     let code = call.code;
     if code == RDP {
         return Verdict::Permit;
     }
-    if code != CAS {
-        return Verdict::Refuse(Refusal::Denied);
+    if code == CAS {
+        return permitted_if(may_list(space, call));
     }
-    if !may_list(space, call) {
-        return Verdict::Refuse(Refusal::Denied);
+    if code == OUT {
+        return permitted_if(may_announce(space, call));
     }
-    Verdict::Permit
+    if code == INP {
+        return permitted_if(may_take_off(config, call));
+    }
+    Verdict::Refuse(Refusal::Denied)
 }
 
-// Whether a cas lists a shift of the caller's own, under a serial that is not listed yet, at position 1 or behind a filled one.
+fn permitted_if(test: bool) -> Verdict
+    ensures { λ r. ⌜ r ≡ demand test (refusal 7) Permit ⌝ }
+{
+    if test {
+        Verdict::Permit
+    } else {
+        Verdict::Refuse(Refusal::Denied)
+    }
+}
+
+// ---- cas
+
+// Whether a cas lists what is due, under a serial that is not listed yet, at position 1 or behind a filled one.
 fn may_list(space: Space, call: Call) -> bool
-    ensures { λ r. ⌜ r ≡ mayList (held space) call ⌝ }
+    requires { ⌜ sound (space .config) ≡ true ⌝ }
+    ensures { λ r. ⌜ r ≡ mayList (space .config) (held space) call ⌝ }
 {
     let entry = call.entry;
-    let third = entry.fields[2];
-    let process = call.process as u64;
     if !is_list_call(call) {
         return false;
     }
-    if third.value != process {
+    if !is_due(space, call) {
         return false;
     }
     if !is_new(space, entry) {
@@ -137,4 +167,135 @@ fn follows(space: Space, entry: Tuple) -> bool
         return true;
     }
     is_filled(space, position - 1)
+}
+
+// ---- whose entry it may be
+
+// Whether an entry is what is owed at its position; or, where nothing is, of the caller's own number.
+fn is_due(space: Space, call: Call) -> bool
+    requires { ⌜ sound (space .config) ≡ true ⌝ }
+    ensures { λ r. ⌜ r ≡ isDue (space .config) (held space) call ⌝ }
+{
+    let entry = call.entry;
+    let second = entry.fields[1];
+    let third = entry.fields[2];
+    let fourth = entry.fields[3];
+    let fifth = entry.fields[4];
+    let caller = call.process as u64;
+    let process = preferred(space.config, second.value);
+    match owed(space, second.value) {
+        Announced::Silent => third.value == caller,
+        Announced::Waits(serial, code) => all_three(
+            third.value == process,
+            fourth.value == serial,
+            fifth.value == code,
+        ),
+    }
+}
+
+// What is owed at a position: under policy 5 the oldest announcement of its preferred process, if its serial is not listed.
+fn owed(space: Space, position: u64) -> Announced
+    requires { ⌜ sound (space .config) ≡ true ⌝ }
+    ensures { λ r. ⌜ r ≡ owed· (space .config) (held space) position ⌝ }
+{
+    if space.config.policy != 5 {
+        return Announced::Silent;
+    }
+    let process = preferred(space.config, position);
+    match oldest_announced(space, process) {
+        Announced::Silent => Announced::Silent,
+        Announced::Waits(serial, code) => waiting(is_listed(space, process, serial), serial, code),
+    }
+}
+
+// An announcement, unless its serial is listed.
+fn waiting(listed: bool, serial: u64, code: u64) -> Announced
+    ensures { λ r. ⌜ r ≡ cond listed Silent (Waits serial code) ⌝ }
+{
+    if listed {
+        Announced::Silent
+    } else {
+        Announced::Waits(serial, code)
+    }
+}
+
+// The remainder of a position by n, and n where that is zero.
+fn preferred(config: Config, position: u64) -> u64
+    requires { ⌜ sound config ≡ true ⌝ }
+    ensures { λ r. ⌜ r ≡ preferred· (config .n) position ⌝ }
+{
+    let n = config.n;
+    let process = position % n;
+    if process == 0 { n } else { process }
+}
+
+fn all_three(a: bool, b: bool, c: bool) -> bool
+    ensures { λ r. ⌜ r ≡ (a && b && c) ⌝ }
+{
+    if !a {
+        return false;
+    }
+    if b { c } else { false }
+}
+
+// ---- out and inp, under policy 5
+
+// Whether an out is of an announcement of the caller's own number, while none of its own stands.
+fn may_announce(space: Space, call: Call) -> bool
+    ensures { λ r. ⌜ r ≡ mayAnnounce (space .config) (held space) call ⌝ }
+{
+    let entry = call.entry;
+    let second = entry.fields[1];
+    let caller = call.process as u64;
+    let config = space.config;
+    all_four(
+        config.policy == 5,
+        is_announcement(entry),
+        second.value == caller,
+        is_silent(oldest_announced(space, caller)),
+    )
+}
+
+fn is_silent(said: Announced) -> bool
+    ensures { λ r. ⌜ r ≡ isSilent said ⌝ }
+{
+    match said {
+        Announced::Waits(_, _) => false,
+        Announced::Silent => true,
+    }
+}
+
+// Whether an inp has a template of word 4 and the caller's own number, the other two fields undefined.
+fn may_take_off(config: Config, call: Call) -> bool
+    ensures { λ r. ⌜ r ≡ mayTakeOff config call ⌝ }
+{
+    let template = call.template;
+    let first = template.fields[0];
+    let second = template.fields[1];
+    let third = template.fields[2];
+    let fourth = template.fields[3];
+    let caller = call.process as u64;
+    let shaped = all_five(
+        config.policy == 5,
+        template.count == 4,
+        says(first, WORD, ANNOUNCING),
+        says(second, COUNT, caller),
+        is_undefined(third, COUNT),
+    );
+    if shaped {
+        is_undefined(fourth, OFFSET)
+    } else {
+        false
+    }
+}
+
+// Whether a field has this kind, and no value.
+fn is_undefined(field: Field, kind: u8) -> bool
+    ensures { λ r. ⌜ r ≡ isUndefined kind field ⌝ }
+{
+    if is(field, kind, WILDCARD) {
+        true
+    } else {
+        is(field, kind, FORMAL)
+    }
 }

@@ -42,7 +42,7 @@ fn verdict_on(space: Space, call: Call) -> Verdict
     if space.config.has_proposals() {
         return justified(space, call);
     }
-    if policy == 4 {
+    if space.config.has_list() {
         return shared(space, call);
     }
     Verdict::Refuse(Refusal::Denied)

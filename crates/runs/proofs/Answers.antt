@@ -64,7 +64,7 @@ entered (Goes.goes fault p (Moves.full puts none)) h = absurd (false≢true h)
 entered (Goes.goes fault p (Moves.reads e)) h = absurd (false≢true h)
 entered (Goes.goes fault p Moves.lacks) h = absurd (false≢true h)
 entered (Goes.goes fault p Moves.keeps) h = absurd (false≢true h)
-entered (Goes.goes fault p (Moves.takes i e inside)) h = absurd (false≢true h)
+entered (Goes.goes fault p (Moves.takes i e at inside)) h = absurd (false≢true h)
 
 -- the turn's call put its entry, which the policy permitted, and it still stands
 pub record Put (config : Config) (calls : List Call) (turn : Turn) : Type 0 where

@@ -99,7 +99,7 @@ module _ {config : Config} (safe : SoundConfig config) where
 
   -- nothing leaves
   pub stays : {tuple : Tuple} (before behind : List Call) → List·Memᴰ tuple (held (last config before)) → List·Memᴰ tuple (held (last config (before ++ behind)))
-  stays before behind m = let grown = nothing-leaves config before behind (no-inp config (omega (arith, config-strict))) in rw (grown .1) (Memᴰ·append-left (grown .0) m)
+  stays before behind m = let grown = nothing-leaves config before behind (no-inp config (omega (arith, config-strict)) (omega (arith, proposals-deciding config config-rests))) in rw (grown .1) (Memᴰ·append-left (grown .0) m)
 
 pub hypothesis : Hypothesis
 hypothesis config = (

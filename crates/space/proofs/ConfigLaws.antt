@@ -10,8 +10,8 @@ use borrow.Author.Tests.{leb-true, le-leb, eqb-true, eqb-false, eq-eqb, ne-eqb}
 use borrow.Table.Steps.{cases}
 use Rattle.space.specs.declared.config.Config.{Config}
 use Rattle.space.specs.Bounds.{processes, lastPolicy, fewestChoices, mostChoices}
-use Rattle.space.specs.Configs.{choiceSound, plainSound, sound, hasProposals}
-use Rattle.space.specs.Laws.{SoundRule, Sound, ProposalsRule}
+use Rattle.space.specs.Configs.{choiceSound, plainSound, sound, hasProposals, hasList}
+use Rattle.space.specs.Laws.{SoundRule, Sound, ProposalsRule, HasListRule}
 
 choice-sound-rule : (config : Config)
     → (choiceSound config ≡ true) ↔ ((fewestChoices ≤ config .k) × (config .k ≤ mostChoices) × ((config .k + 1) * config .t + 1 ≤ config .n))
@@ -81,6 +81,17 @@ proposals-rule config = (
   ⊎-elim
       (λ two. rw (eq-eqb (config .policy) 2 two))
       (λ three. rw (eq-eqb (config .policy) 3 three, or-true)),
+)
+
+pub has-list-rule : HasListRule
+unfolding hasList
+has-list-rule config = (
+  λ h. cases (eqb (config .policy) 4)
+      (λ e. inl (eqb-true (config .policy) 4 e))
+      (λ e. inr (eqb-true (config .policy) 5 (rw e at h))),
+  ⊎-elim
+      (λ four. rw (eq-eqb (config .policy) 4 four))
+      (λ five. rw (eq-eqb (config .policy) 5 five, or-true)),
 )
 
 pub proposals-some : (config : Config) → hasProposals config ≡ true → 2 ≤ config .policy

@@ -1,3 +1,4 @@
+pub mod AnnouncementLaws
 pub mod CodeLaws
 pub mod ConfigLaws
 pub mod FormedLaws

@@ -11,7 +11,7 @@ rounds = 8
 
 -- the last policy
 abbrev pub lastPolicy : ℕ
-lastPolicy = 4
+lastPolicy = 5
 
 -- the fewest and the most choices under policy 3
 abbrev pub fewestChoices : ℕ

@@ -1,4 +1,4 @@
--- Document 01, "What is returned, and for what", row 1, and document 02, 2.1: when a configuration (01's set-up) is sound, and which processes
+-- Document 01, "What is returned, and for what", row 1, and document 02, 2.1, 2.6 and 2.7: when a configuration (01's set-up) is sound, and which processes
 -- it has.
 use Prim.Native.Nat.{ℕ, _+_, _*_}
 use mathlib.Core.Bool.{Bool, cond, _&&_, _||_}
@@ -21,6 +21,10 @@ sound config = leb 1 (config .n) && leb (config .n) processes && cond (eqb (conf
 -- policies 2 and 3: decisions rest on proposals
 unfoldable pub hasProposals : Config → Bool
 hasProposals config = eqb (config .policy) 2 || eqb (config .policy) 3
+
+-- policies 4 and 5: a list that all processes share
+unfoldable pub hasList : Config → Bool
+hasList config = eqb (config .policy) 4 || eqb (config .policy) 5
 
 -- one of the processes 1 to n
 unfoldable pub known : Config → ℕ → Bool

@@ -10,7 +10,9 @@ use lib.ListN.{length, getD}
 use Rattle.space.specs.declared.config.Config.{Config}
 use Rattle.space.specs.declared.proposal.Sought.the-variants.{One, Some, Any}
 use Rattle.space.specs.declared.space.Space.{Space}
-use Rattle.space.specs.Configs.{sound, hasProposals}
+use Rattle.space.specs.declared.announcement.Announced.the-variants.{Waits, Silent}
+use Rattle.space.specs.Announcements.{isAnnouncement, announcerOf, announcedSerial, announcedCode, announcedOf, Announcing, Oldest}
+use Rattle.space.specs.Configs.{sound, hasProposals, hasList}
 use Rattle.space.specs.Lists.{isListTuple, listTuple, positionOf, serialOf, shiftCode, isFilled, isListed, Filled, Listed}
 use Rattle.space.specs.Members.{Member, within, every, counted}
 use Rattle.space.specs.Proposals.{offered, decidable, proposed, backers, crowded, Placed, Proposed}
@@ -27,12 +29,12 @@ use Rattle.tuple.specs.Shapes.{field}
 
 -- ---- configurations
 
--- n is 1 to 15, and the policy at most 4. Policy 3 has a k, 2 to 8, and needs n at least (k + 1)t + 1; under the others k is 0, and n at
+-- n is 1 to 15, and the policy at most 5. Policy 3 has a k, 2 to 8, and needs n at least (k + 1)t + 1; under the others k is 0, and n at
 -- least 3t + 1
 pub record Sound (config : Config) : Type 0 where
   pub some : 1 ≤ config .n
   pub few : config .n ≤ 15
-  pub policy : config .policy ≤ 4
+  pub policy : config .policy ≤ 5
   pub choice : config .policy ≡ 3 → (2 ≤ config .k) × (config .k ≤ 8) × ((config .k + 1) * config .t + 1 ≤ config .n)
   pub others : (config .policy ≡ 3 → ⊥) → (config .k ≡ 0) × (3 * config .t + 1 ≤ config .n)
 
@@ -41,6 +43,9 @@ SoundRule = (config : Config) → (sound config ≡ true) ↔ Sound config
 
 abbrev pub ProposalsRule : Type 0
 ProposalsRule = (config : Config) → (hasProposals config ≡ true) ↔ ((config .policy ≡ 2) ⊎ (config .policy ≡ 3))
+
+abbrev pub HasListRule : Type 0
+HasListRule = (config : Config) → (hasList config ≡ true) ↔ ((config .policy ≡ 4) ⊎ (config .policy ≡ 5))
 
 -- ---- sets
 
@@ -131,6 +136,31 @@ FilledRule = (tuples : List Tuple) (position : ℕ) → (isFilled tuples positio
 -- a process and a serial are listed exactly when such a tuple stands
 abbrev pub ListedRule : Type 0
 ListedRule = (tuples : List Tuple) (process serial : ℕ) → (isListed tuples process serial ≡ true) ↔ Listed tuples process serial
+
+-- ---- announcements
+
+-- four fields, each given: the word 4, the counts of a process and a serial, and the offset of a shift that is not bottom (kinds 1, 2 and 3; state 0)
+pub record Announcement (tuple : Tuple) (process serial code : ℕ) : Type 0 where
+  pub four : tuple .count ≡ 4
+  pub first : field tuple 0 ≡ record { kind = 1; state = 0; value = 4 }
+  pub second : field tuple 1 ≡ record { kind = 2; state = 0; value = process }
+  pub third : field tuple 2 ≡ record { kind = 2; state = 0; value = serial }
+  pub fourth : field tuple 3 ≡ record { kind = 3; state = 0; value = code }
+  pub some : code ≡ 0 → ⊥
+
+abbrev pub AnnouncementRule : Type 0
+AnnouncementRule =
+    (tuple : Tuple) (process serial code : ℕ)
+    → ((isAnnouncement tuple ≡ true) × (announcerOf tuple ≡ process) × (announcedSerial tuple ≡ serial) × (announcedCode tuple ≡ code))
+    ↔ Announcement tuple process serial code
+
+-- what a process has announced is its oldest announcement, and nothing exactly when none stands
+pub record AnnouncedRule (tuples : List Tuple) (process : ℕ) : Type 0 where
+  pub waits : (serial code : ℕ) → (announcedOf tuples process ≡ Waits serial code) ↔ Oldest tuples process serial code
+  pub silent : (announcedOf tuples process ≡ Silent) ↔ (Announcing tuples process → ⊥)
+
+abbrev pub AnnouncedRules : Type 0
+AnnouncedRules = (tuples : List Tuple) (process : ℕ) → AnnouncedRule tuples process
 
 -- ---- spaces
 

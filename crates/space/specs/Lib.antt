@@ -1,3 +1,4 @@
+pub mod Announcements
 pub mod Bounds
 pub mod Configs
 pub mod Laws

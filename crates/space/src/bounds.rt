@@ -3,7 +3,7 @@ pub const PROCESSES: usize = 15;
 
 pub const ROUNDS: u64 = 8;
 
-pub const LAST_POLICY: u64 = 4;
+pub const LAST_POLICY: u64 = 5;
 
 pub const FEWEST_CHOICES: u64 = 2;
 

@@ -3,7 +3,7 @@
 ghost use mathlib.Core.Path.{_≡_};
 ghost use Prim.Native.Nat.{_+_, _*_, _≤_};
 ghost use lib.Dec.{leb};
-ghost use Rattle.space.specs.Configs.{sound, choiceSound, plainSound, hasProposals, known, blankConfig};
+ghost use Rattle.space.specs.Configs.{sound, choiceSound, plainSound, hasProposals, hasList, known, blankConfig};
 use crate::bounds::FEWEST_CHOICES;
 use crate::bounds::LAST_POLICY;
 use crate::bounds::MOST_CHOICES;
@@ -30,7 +30,7 @@ impl Config {
         }
     }
 
-    // Whether n is 1 to 15, the policy at most 4, and n and k are what the policy needs.
+    // Whether n is 1 to 15, the policy at most 5, and n and k are what the policy needs.
     pub fn is_sound(self) -> bool
         ensures { λ r. ⌜ r ≡ sound self ⌝ }
     {
@@ -56,6 +56,17 @@ impl Config {
             true
         } else {
             self.policy == 3
+        }
+    }
+
+    // Whether the processes share a list: policies 4 and 5.
+    pub fn has_list(self) -> bool
+        ensures { λ r. ⌜ r ≡ hasList self ⌝ }
+    {
+        if self.policy == 4 {
+            true
+        } else {
+            self.policy == 5
         }
     }
 

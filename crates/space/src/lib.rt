@@ -1,5 +1,6 @@
-// The tuple space: its bounds and configuration, sets of processes, what may be proposed and who has proposed what, what the shared list holds, and
-// the record with its test and a fresh one.
+// The tuple space: its bounds and configuration, sets of processes, what may be proposed and who has proposed what, what the shared list holds, who has
+// announced what, and the record with its test and a fresh one.
+mod announcement;
 mod bounds;
 mod config;
 mod list;
@@ -8,6 +9,9 @@ mod proposal;
 mod shape;
 mod space;
 
+pub use announcement::Announced;
+pub use announcement::is_announcement;
+pub use announcement::oldest_announced;
 pub use bounds::LAST_POLICY;
 pub use bounds::PROCESSES;
 pub use bounds::ROUNDS;

@@ -13,7 +13,7 @@ use Rattle.tuple.specs.declared.field.Field.{Field}
 use Rattle.tuple.specs.declared.offset.Offset.{Offset}
 use Rattle.tuple.specs.declared.offset.Offset.the-variants.{Bottom, Hundredths}
 use Rattle.tuple.specs.declared.refusal.Refusal.{Refusal}
-use Rattle.tuple.specs.declared.refusal.Refusal.the-variants.{Unsound, Cut, Beyond, Unknown, Misshapen, Stranger, Denied, Full, LongScript, NoRoom, Unfit, SecondProposal, Unborne, Unreached}
+use Rattle.tuple.specs.declared.refusal.Refusal.the-variants.{Unsound, Cut, Beyond, Unknown, Misshapen, Stranger, Denied, Full, LongScript, NoRoom, Unfit, SecondProposal, Unborne, Unreached, Unscripted}
 use Rattle.tuple.specs.declared.reply.Reply.{Reply}
 use Rattle.tuple.specs.Offsets.{codeOf, offsetOf}
 use Rattle.tuple.specs.Refusals.{numberOf}
@@ -40,6 +40,7 @@ number-most Unfit = omega arith
 number-most SecondProposal = omega arith
 number-most Unborne = omega arith
 number-most Unreached = omega arith
+number-most Unscripted = omega arith
 
 pub refusal-most : (why : Refusal) → length (refusalText why) ≤ 10
 unfolding refusalText

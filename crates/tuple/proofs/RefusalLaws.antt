@@ -2,7 +2,7 @@
 use mathlib.Core.Path.{refl}
 use Prim.Native.Nat.{zero, suc}
 use native.Mathlib.Omega.{arith}
-use Rattle.tuple.specs.declared.refusal.Refusal.the-variants.{Unsound, Cut, Beyond, Unknown, Misshapen, Stranger, Denied, Full, LongScript, NoRoom, Unfit, SecondProposal, Unborne, Unreached}
+use Rattle.tuple.specs.declared.refusal.Refusal.the-variants.{Unsound, Cut, Beyond, Unknown, Misshapen, Stranger, Denied, Full, LongScript, NoRoom, Unfit, SecondProposal, Unborne, Unreached, Unscripted}
 use Rattle.tuple.specs.Laws.{Numbered, NumberedBack}
 
 pub numbered : Numbered
@@ -20,6 +20,7 @@ numbered Unfit = refl
 numbered SecondProposal = refl
 numbered Unborne = refl
 numbered Unreached = refl
+numbered Unscripted = refl
 
 pub numbered-back : NumberedBack
 numbered-back zero least most = absurd (omega arith)
@@ -37,4 +38,5 @@ numbered-back (suc (suc (suc (suc (suc (suc (suc (suc (suc (suc (suc zero)))))))
 numbered-back (suc (suc (suc (suc (suc (suc (suc (suc (suc (suc (suc (suc zero)))))))))))) least most = refl
 numbered-back (suc (suc (suc (suc (suc (suc (suc (suc (suc (suc (suc (suc (suc zero))))))))))))) least most = refl
 numbered-back (suc (suc (suc (suc (suc (suc (suc (suc (suc (suc (suc (suc (suc (suc zero)))))))))))))) least most = refl
-numbered-back (suc (suc (suc (suc (suc (suc (suc (suc (suc (suc (suc (suc (suc (suc (suc n))))))))))))))) least most = absurd (omega arith)
+numbered-back (suc (suc (suc (suc (suc (suc (suc (suc (suc (suc (suc (suc (suc (suc (suc zero))))))))))))))) least most = refl
+numbered-back (suc (suc (suc (suc (suc (suc (suc (suc (suc (suc (suc (suc (suc (suc (suc (suc n)))))))))))))))) least most = absurd (omega arith)

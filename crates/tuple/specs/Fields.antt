@@ -44,6 +44,9 @@ decision = 2
 abbrev pub listing : ℕ
 listing = 3
 
+abbrev pub announcing : ℕ
+announcing = 4
+
 -- ---- the codes of the calls
 
 abbrev pub out : ℕ

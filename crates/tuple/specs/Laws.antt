@@ -22,9 +22,9 @@ use Rattle.tuple.specs.Offsets.{inRange, codeOf, offsetOf}
 abbrev pub Numbered : Type 0
 Numbered = (r : Refusal) → refusal (numberOf r) ≡ r
 
--- and the numbers are 1 to 14
+-- and the numbers are 1 to 15
 abbrev pub NumberedBack : Type 0
-NumberedBack = (number : ℕ) → 1 ≤ number → number ≤ 14 → numberOf (refusal number) ≡ number
+NumberedBack = (number : ℕ) → 1 ≤ number → number ≤ 15 → numberOf (refusal number) ≡ number
 
 -- the coding is one to one between the offsets in range, bottom among them, and the numbers from 0 to the largest code
 pub record OneToOne : Type 0 where

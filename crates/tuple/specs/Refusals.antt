@@ -1,9 +1,9 @@
--- Document 01, "What is returned, and for what", and document 02, 2.3 and 2.4: the number of each refusal, and the refusal of each number.
+-- Document 01, "What is returned, and for what", and document 02, 2.3, 2.4 and 2.7: the number of each refusal, and the refusal of each number.
 use Prim.Native.Nat.{ℕ}
 use mathlib.Core.Bool.{cond}
 use lib.Dec.{eqb}
 use Rattle.tuple.specs.declared.refusal.Refusal.{Refusal}
-use Rattle.tuple.specs.declared.refusal.Refusal.the-variants.{Unsound, Cut, Beyond, Unknown, Misshapen, Stranger, Denied, Full, LongScript, NoRoom, Unfit, SecondProposal, Unborne, Unreached}
+use Rattle.tuple.specs.declared.refusal.Refusal.the-variants.{Unsound, Cut, Beyond, Unknown, Misshapen, Stranger, Denied, Full, LongScript, NoRoom, Unfit, SecondProposal, Unborne, Unreached, Unscripted}
 
 abbrev pub numberOf : Refusal → ℕ
 numberOf Unsound = 1
@@ -20,6 +20,7 @@ numberOf Unfit = 11
 numberOf SecondProposal = 12
 numberOf Unborne = 13
 numberOf Unreached = 14
+numberOf Unscripted = 15
 
 -- the definitions name a refusal by its number; what is no number of one is taken for the last
 abbrev pub refusal : ℕ → Refusal
@@ -37,4 +38,5 @@ refusal number =
     (cond (eqb number 11) Unfit
     (cond (eqb number 12) SecondProposal
     (cond (eqb number 13) Unborne
-    Unreached))))))))))))
+    (cond (eqb number 14) Unreached
+    Unscripted)))))))))))))

@@ -30,6 +30,8 @@ pub const DECISION: u64 = 2;
 
 pub const LISTING: u64 = 3;
 
+pub const ANNOUNCING: u64 = 4;
+
 // The codes of the calls.
 pub const OUT: u8 = 1;
 

@@ -18,6 +18,7 @@ pub use bounds::TUPLES;
 pub use fault::Fault;
 pub use fault::uses_entry;
 pub use fault::uses_template;
+pub use field::ANNOUNCING;
 pub use field::CAS;
 pub use field::COUNT;
 pub use field::Call;

@@ -33,6 +33,8 @@ pub enum Refusal {
     Unborne,
     // 14: a space that no script ends in.
     Unreached,
+    // 15: a space of policy 5 that is to be written as a script.
+    Unscripted,
 }
 
 impl Refusal {
@@ -55,6 +57,7 @@ impl Refusal {
             Refusal::SecondProposal => 12,
             Refusal::Unborne => 13,
             Refusal::Unreached => 14,
+            Refusal::Unscripted => 15,
         }
     }
 }

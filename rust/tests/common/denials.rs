@@ -1,9 +1,9 @@
 //! Why policies 2 and 3 deny a call (02, 2.3), worked out member by member and apart from the plain version's policies: each cause of 12
-//! and 13 by itself, and the 7s beside them, counted. Under policy 4 `lists` judges.
+//! and 13 by itself, and the 7s beside them, counted. Under policies 4 and 5 `lists` judges.
 
 use std::collections::BTreeMap;
 
-use reference::policy::{DEFAULT, LAST_ROUND, LIST, STRONG};
+use reference::policy::{DEFAULT, LAST_ROUND, LIST, STRONG, WAIT_FREE};
 use reference::{Answer, AnswerKind, Board, Call, Config, Offset, Tuple};
 
 use super::lists::Lists;
@@ -193,15 +193,19 @@ fn members(board: &Board, round: u64, seats: u64) -> Vec<Vec<u64>> {
 #[derive(Default)]
 pub struct Denials {
     came: BTreeMap<(u64, Cause), usize>,
+    /// Under policy 4, and under policy 5.
     pub lists: Lists,
+    pub announced: Lists,
 }
 
 impl Denials {
     /// Holds the answer to a call on this board against its cause, and counts it.
     pub fn note(&mut self, before: &Board, call: &Call, answer: &Answer) {
         let policy = before.config.policy;
-        if policy == LIST {
-            return self.lists.note(before, call, answer);
+        match policy {
+            LIST => return self.lists.note(before, call, answer),
+            WAIT_FREE => return self.announced.note(before, call, answer),
+            _ => {}
         }
         let denial = match answer.kind {
             AnswerKind::Refused(refusal) if [7, 12, 13].contains(&refusal.number()) => Some(refusal.number()),
@@ -220,7 +224,7 @@ impl Denials {
         }
     }
 
-    /// Prints what came under policies 2, 3 and 4.
+    /// Prints what came under policies 2 to 5.
     pub fn print(&self) {
         for policy in [DEFAULT, STRONG] {
             for number in [12, 13, 7] {
@@ -233,7 +237,8 @@ impl Denials {
                 }
             }
         }
-        self.lists.print();
+        self.lists.print(LIST);
+        self.announced.print(WAIT_FREE);
     }
 
     /// Each of these causes came so often at least under this policy.

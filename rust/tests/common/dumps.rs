@@ -1,11 +1,11 @@
 //! Boards written back as scripts by both (02, 2.4), and what was written run again, which must end in the board. Beside the plain version,
-//! `reached` judges which boards no script ends in.
+//! `reached` judges which boards no script ends in. Those of policy 5 are all refused.
 
 use std::collections::BTreeMap;
 
 use reference::board::MOST_TUPLES;
 use reference::dump::LONGEST_DUMP;
-use reference::policy::{BARE, LIST, STRONG, WEAK};
+use reference::policy::{BARE, LIST, STRONG, WAIT_FREE, WEAK};
 use reference::records::Reader;
 use reference::script::run;
 use reference::{flat, sys};
@@ -14,11 +14,12 @@ use reference::{Answer, Board, Code, Config, Kind, Refusal, Tuple};
 use super::reached::{flaw, Flaw};
 use super::{compare_dump, Dice, CHOICES, POLICIES, VALUES};
 
-/// How often boards were written back, and refused 1, 14 and 10.
+/// How often boards were written back, and refused 1, 15, 14 and 10.
 #[derive(Clone, Copy, Debug, Default)]
 pub struct Came {
     pub written: usize,
     pub unsound: usize,
+    pub unwritten: usize,
     pub unreached: usize,
     pub short: usize,
 }
@@ -36,9 +37,9 @@ impl Dumps {
         let policy = board.config.policy;
         let came = self.came.entry(policy).or_default();
         let answer = compare_dump(board, &[0xA5; LONGEST_DUMP + 1]);
-        let unsound = board.check().err();
-        let flaw = if unsound.is_none() { flaw(board) } else { None };
-        let expected = unsound.or(flaw.map(|_| Refusal::Unreached));
+        let refused = board.check().err().or((policy == WAIT_FREE).then_some(Refusal::Unwritten));
+        let flaw = if refused.is_none() { flaw(board) } else { None };
+        let expected = refused.or(flaw.map(|_| Refusal::Unreached));
         assert_eq!(answer.as_ref().err(), expected.as_ref(), "{flaw:?} in {board:?}");
         match &answer {
             Ok(script) => {
@@ -51,11 +52,13 @@ impl Dumps {
                 came.written += 1;
             }
             Err(refusal) => {
-                // 1 and 14 come before 10.
+                // 1, 15 and 14 come before 10.
                 assert_eq!(compare_dump(board, &[]), Err(*refusal));
-                let refused =
-                    if *refusal == Refusal::Unsound { &mut came.unsound } else { &mut came.unreached };
-                *refused += 1;
+                *match refusal {
+                    Refusal::Unsound => &mut came.unsound,
+                    Refusal::Unwritten => &mut came.unwritten,
+                    _ => &mut came.unreached,
+                } += 1;
             }
         }
         if let Some(flaw) = flaw {
@@ -71,13 +74,18 @@ impl Dumps {
 
     /// How many boards there were.
     pub fn boards(&self) -> usize {
-        self.came.values().map(|came| came.written + came.unsound + came.unreached).sum()
+        let boards = |came: &Came| came.written + came.unsound + came.unwritten + came.unreached;
+        self.came.values().map(boards).sum()
     }
 
     /// Prints what came under each policy.
     pub fn print(&self) {
-        for (policy, Came { written, unsound, unreached, short }) in &self.came {
-            if *policy > LIST {
+        for (policy, Came { written, unsound, unwritten, unreached, short }) in &self.came {
+            if *policy > WAIT_FREE {
+                continue;
+            }
+            if *policy == WAIT_FREE {
+                println!("         under policy 5 refused 1 {unsound}, refused 15 {unwritten}");
                 continue;
             }
             println!(
@@ -92,15 +100,17 @@ impl Dumps {
         }
     }
 
-    /// Each answer that can come did so often at least under this policy, but 10, which each written board gives: all but 14 under policy 0.
+    /// Each answer that can come did so often at least under this policy, but 10, which each written board gives: all but 14 under policy 0,
+    /// and 1 and 15 alone under policy 5.
     pub fn assert_came(&self, policy: u64, least: usize) {
         let came = self.under(policy);
-        let Came { written, unsound, unreached, .. } = came;
-        assert!(written.min(unsound) >= least, "{came:?} under policy {policy}");
-        assert!(
-            if policy == BARE { unreached == 0 } else { unreached >= least },
-            "{came:?} under policy {policy}"
-        );
+        let Came { written, unsound, unwritten, unreached, .. } = came;
+        let (can, cannot) = match policy {
+            BARE => (vec![written, unsound], unreached + unwritten),
+            WAIT_FREE => (vec![unsound, unwritten], written + unreached),
+            _ => (vec![written, unsound, unreached], unwritten),
+        };
+        assert!(can.iter().all(|often| *often >= least) && cannot == 0, "{came:?} under policy {policy}");
     }
 
     /// Each of these flaws came so often at least under this policy.
@@ -234,7 +244,7 @@ fn change_set_up(dice: &mut Dice, config: &mut Config) {
         3 if config.policy == STRONG => config.k = near(dice, config.k),
         3 => config.k = dice.pick(&CHOICES),
         _ => {
-            config.policy = dice.pick(&POLICIES[..6]);
+            config.policy = dice.pick(&POLICIES[..7]);
             config.k = if config.policy == STRONG { 2 + dice.below(3) } else { 0 };
         }
     }

@@ -1,23 +1,26 @@
-//! The list of policy 4 (02, 2.6): why a call is denied, worked out apart from the plain version's policy; seats that race for its
-//! positions, among strays; what holds of every run; and lists that no run makes.
+//! The list of policies 4 and 5 (02, 2.6 and 2.7): why a call is denied, worked out apart from the plain version's policies. Under policy 4:
+//! seats that race for its positions, among strays; what holds of every run; and lists that no run makes. Under policy 5 `announced` has
+//! these.
 
 use std::collections::{BTreeMap, BTreeSet};
 
 use reference::board::MOST_TUPLES;
 use reference::list::LAST_POSITION;
+use reference::policy::LIST;
 use reference::{Answer, AnswerKind, Board, Call, Config, Field, Kind, Offset, Refusal, Tuple};
 
-use super::{good_field, good_tuple, spoil, Dice, PARTS, SEATS};
+use super::{announced, good_field, good_tuple, spoil, Dice, PARTS, SEATS};
 
 /// Why a call is denied.
 #[derive(Clone, Copy, Debug, PartialEq, Eq, PartialOrd, Ord)]
 pub enum Cause {
+    /// An out or inp, under policy 5 one of another shape.
     Out,
     Inp,
     /// A cas of another entry.
     Entry,
-    /// A cas with one thing wrong: another template; the template of another position; position 0; one above 112; another's number;
-    /// the mark; the position before it empty.
+    /// A cas with one thing wrong: another template; the template of another position; position 0; one above 112; another's number,
+    /// where under policy 5 nothing is owed; the mark; the position before it empty.
     Template,
     TwoPositions,
     PositionZero,
@@ -29,14 +32,30 @@ pub enum Cause {
     SameAgain,
     ShiftAgain,
     ElsewhereAgain,
-    /// A cas with several of these wrong.
+    /// A call with several of these wrong.
     Several,
+    /// Policy 5, a cas with nothing else wrong: the caller's own where another's announcement waits; the preferred seat's own other serial
+    /// where its own announcement does; what is owed but for its shift; anything else where something is owed; another's announcement
+    /// where nothing is.
+    OwnOwed,
+    SerialOwed,
+    ShiftOwed,
+    ElseOwed,
+    OutOfTurn,
+    /// Policy 5, an out with one thing wrong: the mark; another's number; the seat's own stands.
+    AnnouncedMark,
+    AnnouncedAnothers,
+    AnnouncedAgain,
+    /// Policy 5, an inp with one thing wrong: another's number; its number undefined; the serial or the shift given.
+    InpAnothers,
+    InpAnybodys,
+    InpGiven,
 }
 
 use Cause::*;
 
 impl Cause {
-    pub const ALL: [Cause; 14] = [
+    pub const UNDER_4: [Cause; 14] = [
         Out,
         Inp,
         Entry,
@@ -52,14 +71,31 @@ impl Cause {
         ElsewhereAgain,
         Several,
     ];
+    /// Those that policy 5 has besides, and of these the ones of a cas where something is owed.
+    pub const UNDER_5: [Cause; 11] = [
+        OwnOwed,
+        SerialOwed,
+        ShiftOwed,
+        ElseOwed,
+        OutOfTurn,
+        AnnouncedMark,
+        AnnouncedAnothers,
+        AnnouncedAgain,
+        InpAnothers,
+        InpAnybodys,
+        InpGiven,
+    ];
+    pub const OWED: [Cause; 4] = [OwnOwed, SerialOwed, ShiftOwed, ElseOwed];
 
-    /// Why policy 4 denies this call, if it does. The board is well formed, the call sound and of a seat from 1 to n.
+    /// Why policy 4 or 5 denies this call, if it does. The board is well formed, the call sound and of a seat from 1 to n.
     fn of(board: &Board, call: &Call) -> Option<Cause> {
-        match call.code {
-            1 => Some(Out),
-            2 => None,
-            3 => Some(Inp),
-            _ => Cause::of_cas(board, call),
+        match (board.config.policy, call.code) {
+            (_, 2) => None,
+            (_, 4) => Cause::of_cas(board, call),
+            (LIST, 1) => Some(Out),
+            (LIST, _) => Some(Inp),
+            (_, 1) => announced::cause_of_out(board, call),
+            _ => announced::cause_of_inp(call),
         }
     }
 
@@ -71,16 +107,24 @@ impl Cause {
         let asked = call.template.fields[1].value;
         let shaped = call.template == Tuple::listed_template(asked);
         let again = again(board, &call.entry);
-        let faults = [
+        let whose = match board.config.policy {
+            LIST => (seat != call.process.into()).then_some(Anothers),
+            _ => announced::whose(board, call),
+        };
+        Cause::one_of(&[
             (!shaped, Template),
             (shaped && asked != position, TwoPositions),
             (position == 0, PositionZero),
             (position > 112, PositionAbove),
-            (seat != call.process.into(), Anothers),
+            (whose.is_some(), whose.unwrap_or(Several)),
             (shift == 0, Mark),
             (position > 1 && !stands(board, [Some(position - 1), None, None]), NoneBefore),
             (again.is_some(), again.unwrap_or(Several)),
-        ];
+        ])
+    }
+
+    /// The one thing that is wrong, or that several are.
+    pub fn one_of(faults: &[(bool, Cause)]) -> Option<Cause> {
         let mut wrong = faults.iter().filter(|(is_wrong, _)| *is_wrong).map(|(_, cause)| *cause);
         match (wrong.next(), wrong.next()) {
             (Some(_), Some(_)) => Some(Several),
@@ -104,14 +148,14 @@ fn again(board: &Board, entry: &Tuple) -> Option<Cause> {
 }
 
 /// Whether a list tuple of this position, seat and serial, where they are given, is on the board.
-fn stands(board: &Board, counts: [Option<u64>; 3]) -> bool {
+pub fn stands(board: &Board, counts: [Option<u64>; 3]) -> bool {
     let [position, seat, serial] =
         counts.map(|count| count.map_or(Field::any(Kind::Count), |value| Field::given(Kind::Count, value)));
     let sought = Tuple::of(&[Field::given(Kind::Word, 3), position, seat, serial, Field::any(Kind::Offset)]);
     board.held().iter().any(|held| sought.matches(held))
 }
 
-/// What came of calls on boards under policy 4, and why they were denied.
+/// What came of calls on boards under policy 4 or under policy 5, and why they were denied.
 #[derive(Default)]
 pub struct Lists {
     pub inserted: usize,
@@ -120,6 +164,14 @@ pub struct Lists {
     pub none: usize,
     pub denied: usize,
     pub full: usize,
+    /// Under policy 5: announcements put; tuples taken off, and those with the mark among them; another's shift listed, or held; a cas
+    /// denied alone because something is owed at its position, though that is taken.
+    pub done: usize,
+    pub taken_off: usize,
+    pub marks_off: usize,
+    pub helped: usize,
+    pub help_held: usize,
+    pub not_held: usize,
     causes: BTreeMap<Cause, usize>,
 }
 
@@ -129,50 +181,79 @@ impl Lists {
         let standing = before.held().iter().find(|held| call.template.matches(held));
         let place = before.count < MOST_TUPLES;
         let (right, came) = match answer.kind {
+            AnswerKind::Done => (call.code == 1 && place, &mut self.done),
             AnswerKind::Inserted => (standing.is_none() && place, &mut self.inserted),
             AnswerKind::Held => (standing == Some(&answer.tuple), &mut self.held),
+            AnswerKind::Found if call.code == 3 => (standing == Some(&answer.tuple), &mut self.taken_off),
             AnswerKind::Found => (standing == Some(&answer.tuple), &mut self.found),
             AnswerKind::None => (standing.is_none(), &mut self.none),
             AnswerKind::Refused(Refusal::Denied) => (true, &mut self.denied),
             AnswerKind::Refused(Refusal::Full) => (standing.is_none() && !place, &mut self.full),
             // What is refused before the policy is asked is not judged.
             AnswerKind::Refused(refusal) => return assert!(refusal.number() < 7, "{refusal} to {call:?}"),
-            AnswerKind::Done => panic!("{call:?} on {before:?}"),
         };
         assert!(right, "{answer:?} to {call:?} on {before:?}");
         *came += 1;
         let (cause, denied) = (Cause::of(before, call), Answer::from(Refusal::Denied));
         assert_eq!(cause.is_some(), *answer == denied, "{cause:?}: {call:?} on {before:?}");
+        let anothers = usize::from(call.entry.fields[2].value != call.process.into());
+        match answer.kind {
+            AnswerKind::Inserted => self.helped += anothers,
+            AnswerKind::Held => self.help_held += anothers,
+            AnswerKind::Found if call.code == 3 => {
+                self.marks_off += usize::from(answer.tuple.fields[3].value == Offset::MARK);
+            }
+            _ => {}
+        }
         if let Some(cause) = cause {
+            self.not_held += usize::from(Cause::OWED.contains(&cause) && standing.is_some());
             *self.causes.entry(cause).or_default() += 1;
         }
     }
 
-    /// Prints what came.
-    pub fn print(&self) {
-        let Lists { inserted, held, found, none, denied, full, causes } = self;
+    /// How often a cause came.
+    pub fn often(&self, cause: Cause) -> usize {
+        self.causes.get(&cause).copied().unwrap_or(0)
+    }
+
+    /// How often a call was denied alone because something is owed.
+    pub fn owed(&self) -> usize {
+        Cause::OWED.into_iter().map(|cause| self.often(cause)).sum()
+    }
+
+    /// Prints what came under this policy.
+    pub fn print(&self, policy: u64) {
+        let Lists { inserted, held, found, none, denied, full, causes, .. } = self;
         if *denied == 0 {
             return;
         }
         println!(
-            "         under policy 4 inserted {inserted}, held {held}, found {found}, none {none}, refused 7 {denied}, \
+            "         under policy {policy} inserted {inserted}, held {held}, found {found}, none {none}, refused 7 {denied}, \
              refused 8 {full}"
         );
+        let Lists { done, taken_off, marks_off, helped, help_held, not_held, .. } = self;
+        if policy != LIST {
+            println!(
+                "         announced {done}, taken off {taken_off}, {marks_off} of them with the mark; another's inserted {helped}, \
+                 tried and held {help_held}; refused 7 for what is owed {}, {not_held} of them on a taken position",
+                self.owed()
+            );
+        }
         let causes: Vec<String> = causes.iter().map(|(cause, often)| format!("{cause:?} {often}")).collect();
-        println!("         refused 7 under policy 4: {}", causes.join(", "));
+        println!("         refused 7 under policy {policy}: {}", causes.join(", "));
     }
 
     /// Each of these causes came so often at least.
     pub fn assert_each(&self, causes: &[Cause], least: usize) {
         for cause in causes {
-            let often = self.causes.get(cause).copied().unwrap_or(0);
-            assert!(often >= least, "{cause:?} came {often} times under policy 4");
+            let often = self.often(*cause);
+            assert!(often >= least, "{cause:?} came {often} times on a list");
         }
     }
 }
 
 /// A shift other than the mark: near 0, or far off.
-fn any_shift(dice: &mut Dice) -> u64 {
+pub fn any_shift(dice: &mut Dice) -> u64 {
     dice.pick(&[1, 2, 3, 0x50, 0x51, 16_383, 16_384, 200_000, 200_001])
 }
 
@@ -219,7 +300,7 @@ impl Racer {
 }
 
 /// The tuple that an answer gives: what was inserted, held or found.
-fn read_in(call: &Call, answer: &Answer) -> Option<Tuple> {
+pub fn read_in(call: &Call, answer: &Answer) -> Option<Tuple> {
     match answer.kind {
         AnswerKind::Inserted => Some(call.entry),
         AnswerKind::Held | AnswerKind::Found => Some(answer.tuple),
@@ -228,7 +309,7 @@ fn read_in(call: &Call, answer: &Answer) -> Option<Tuple> {
 }
 
 /// The hundredths of a shift that is not the mark.
-fn hundredths(shift: u64) -> i64 {
+pub fn hundredths(shift: u64) -> i64 {
     match Offset::from_travelling(shift) {
         Some(Offset::Number(z)) => z,
         other => panic!("a shift that is {other:?}"),
@@ -342,13 +423,8 @@ pub fn near_call(dice: &mut Dice, board: &Board, process: u32) -> Call {
 fn near_entry(dice: &mut Dice, board: &Board, process: u32) -> Tuple {
     let list: Vec<_> = board.held().iter().filter_map(looks_listed).collect();
     let own: Vec<_> = list.iter().filter(|(_, seat, _, _)| *seat == u64::from(process)).copied().collect();
-    let before = match dice.below(8) {
-        _ if list.is_empty() => 0,
-        0 => 0,
-        1..=4 => list[list.len() - 1].0,
-        _ => dice.pick(&list).0,
-    };
-    let (mut position, mut seat, mut shift) = (before + 1, u64::from(process), any_shift(dice));
+    let (mut position, mut seat, mut shift) =
+        (near_position(dice, board), u64::from(process), any_shift(dice));
     let mut serial = if dice.one_in(8) { dice.below(4) } else { dice.below(1 << 32) };
     match dice.below(20) {
         0 => position = dice.pick(&[0, 0, 1, 111, 112, 113, 114, 255, Kind::Count.last()]),
@@ -371,8 +447,19 @@ fn near_entry(dice: &mut Dice, board: &Board, process: u32) -> Tuple {
     entry
 }
 
+/// The first position, the one behind the newest list tuple, or behind any.
+pub fn near_position(dice: &mut Dice, board: &Board) -> u64 {
+    let list: Vec<_> = board.held().iter().filter_map(looks_listed).collect();
+    1 + match dice.below(8) {
+        _ if list.is_empty() => 0,
+        0 => 0,
+        1..=4 => list[list.len() - 1].0,
+        _ => dice.pick(&list).0,
+    }
+}
+
 /// Position, seat, serial and shift of a list tuple, and of what looks like one, each within its kind's range.
-fn looks_listed(tuple: &Tuple) -> Option<(u64, u64, u64, u64)> {
+pub fn looks_listed(tuple: &Tuple) -> Option<(u64, u64, u64, u64)> {
     let [_, position, seat, serial, shift, _] = tuple.fields;
     let counts = [position, seat, serial];
     let [position, seat, serial] = counts.map(|field| field.value.min(Kind::Count.last()));
@@ -381,7 +468,7 @@ fn looks_listed(tuple: &Tuple) -> Option<(u64, u64, u64, u64)> {
 }
 
 /// The template of a list tuple but for one field, or for how many it has.
-fn near_template(dice: &mut Dice, entry: &Tuple) -> Tuple {
+pub fn near_template(dice: &mut Dice, entry: &Tuple) -> Tuple {
     let right = Tuple::listed_template(entry.fields[1].value);
     let (mut fields, place) = (right.fields, dice.below(5) as usize);
     match dice.below(6) {

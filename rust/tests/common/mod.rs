@@ -3,6 +3,7 @@
 
 #![allow(dead_code)]
 
+pub mod announced;
 pub mod denials;
 pub mod dumps;
 pub mod lists;
@@ -19,7 +20,7 @@ use reference::{
     Answer, AnswerKind, Board, Call, Config, Field, Kind, Offset, Phase, Refusal, Seat, Step, Tuple,
 };
 
-/// How many numbers the answer to a call is counted under: 0 for those obeyed, then each refusal's. 14 is no call's.
+/// How many numbers the answer to a call is counted under: 0 for those obeyed, then each refusal's. 14 and 15 are no call's.
 pub const ANSWERS: usize = Refusal::Unborne as usize + 1;
 
 /// A small generator of numbers (xorshift). `SEED` in the environment changes all of them.
@@ -99,7 +100,7 @@ pub const CODES: [u8; 7] = [0, 1, 2, 3, 4, 5, 255];
 pub const SEATS: [u32; 9] = [0, 1, 2, 4, 5, MOST_SEATS as u32, MOST_SEATS as u32 + 1, 127, u32::MAX];
 
 /// Every policy, and numbers that are none's.
-pub const POLICIES: [u64; 7] = [0, 1, 2, 3, 4, 5, u64::MAX];
+pub const POLICIES: [u64; 8] = [0, 1, 2, 3, 4, 5, 6, u64::MAX];
 
 /// How many choices: all of policy 3, and beyond its bounds.
 pub const CHOICES: [u64; 12] = [0, 1, 2, 3, 4, 5, 6, 7, 8, 9, 4_294_967_295, u64::MAX];
@@ -120,7 +121,7 @@ pub fn config_of(dice: &mut Dice, n: u64, policy: u64) -> Config {
 /// A set-up at or beyond its bounds.
 pub fn odd_config(dice: &mut Dice) -> Config {
     let n = dice.pick(&[0, 1, 3, 4, 5, 6, 7, 9, 10, MOST_SEATS, MOST_SEATS + 1, u64::MAX]);
-    let policy = dice.pick(&[0, 1, 2, 3, 3, 4, 5, u64::MAX]);
+    let policy = dice.pick(&[0, 1, 2, 3, 3, 4, 5, 6, u64::MAX]);
     let k = if policy == STRONG || dice.one_in(3) { dice.pick(&CHOICES) } else { 0 };
     Config { n, t: dice.pick(&STRAYS), policy, k }
 }

@@ -1,5 +1,6 @@
 //! Whether any script ends in a well-formed board (02, 2.4), by a rule over the order of its tuples and without a run: every tuple must be
-//! one that the policy lets somebody append to those before it, since policies 1 to 4 let nobody take one off.
+//! one that the policy lets somebody append to those before it, since policies 1 to 4 let nobody take one off. Policy 5 does, and has no
+//! rule here: its boards are not written back.
 
 use reference::policy::{BARE, DEFAULT, LAST_ROUND, LIST, STRONG, WEAK};
 use reference::{Board, Config, Field, Kind, Offset, Tuple};
@@ -63,7 +64,8 @@ impl Flaw {
     pub const UNDER_4: [Flaw; 6] = [Shape, SeatZero, SeatAbove, Misplaced, ListedMark, ListedAgain];
 }
 
-/// The flaw of the oldest tuple that has one; no script ends in the board if there is one, and else some script does.
+/// The flaw of the oldest tuple that has one; no script ends in the board if there is one, and else some script does. The policy is one of
+/// 0 to 4.
 pub fn flaw(board: &Board) -> Option<Flaw> {
     let held = board.held();
     (0..held.len()).find_map(|place| flaw_of(&board.config, held, place))

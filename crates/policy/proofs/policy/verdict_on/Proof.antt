@@ -31,25 +31,35 @@ returns-3 c =
     c .justified .ensures
     ∙ sym (rw (ne-eqb _ 0 (p .before .if1 .left), ne-eqb _ 1 (p .if2 .left), sym (h .has-proposals .ensures) ∙ c .before .if3 .taken))
 
+has-list-requires : tie.Need-has-list-requires
+has-list-requires c κs = search needs
+
 shared-requires : tie.Need-shared-requires
 shared-requires c κs = search needs
 
 returns-4 : tie.Need-returns-4
 unfolding verdictOn
 returns-4 c =
-    let l = c .before .before in
+    let k = c .before .before in
+    let l = k .before in
     let h = l .before in
     let p = h .before in
     c .shared .ensures
-    ∙ sym (rw (ne-eqb _ 0 (p .before .if1 .left), ne-eqb _ 1 (p .if2 .left), sym (h .has-proposals .ensures) ∙ l .if3 .left, eq-eqb _ 4 (c .before .if4 .taken)))
+    ∙ sym (rw (
+      ne-eqb _ 0 (p .before .if1 .left),
+      ne-eqb _ 1 (p .if2 .left),
+      sym (h .has-proposals .ensures) ∙ l .if3 .left,
+      sym (k .has-list .ensures) ∙ c .before .if4 .taken,
+    ))
 
 returns-5 : tie.Need-returns-5
 unfolding verdictOn
 returns-5 c =
-    let l = c .before in
+    let k = c .before in
+    let l = k .before in
     let h = l .before in
     let p = h .before in
-    rw (ne-eqb _ 0 (p .before .if1 .left), ne-eqb _ 1 (p .if2 .left), sym (h .has-proposals .ensures) ∙ l .if3 .left, ne-eqb _ 4 (c .if4 .left))
+    rw (ne-eqb _ 0 (p .before .if1 .left), ne-eqb _ 1 (p .if2 .left), sym (h .has-proposals .ensures) ∙ l .if3 .left, sym (k .has-list .ensures) ∙ c .if4 .left)
 
 pub verdict-on-spec : {M : Type 1} → statement M
 verdict-on-spec =
@@ -61,6 +71,7 @@ verdict-on-spec =
     has-proposals-requires
     justified-requires
     returns-3
+    has-list-requires
     shared-requires
     returns-4
     returns-5)

@@ -1,0 +1,16 @@
+-- `space::Config::has_list` meets its contract: its tests are the definition's.
+use borrow.Author.Tests.{eq-eqb, ne-eqb}
+use Rattle.space.specs.Configs.{hasList}
+use Rattle.space.proofs.config.Config.has_list.Statement.{statement}
+use Rattle.space.proofs.config.Config.has_list.Tie as tie
+
+returns : tie.Need-returns
+unfolding hasList
+returns c = rw (eq-eqb _ 4 (c .if1 .taken))
+
+returns-2 : tie.Need-returns-2
+unfolding hasList
+returns-2 c = rw (ne-eqb _ 4 (c .before .if1 .left))
+
+pub has-list-spec : {M : Type 1} → statement M
+has-list-spec = tie.close (tie.spec returns returns-2)

@@ -1,0 +1,85 @@
+// Announcements: their shape, and a process's oldest one.
+ghost use mathlib.Core.Path.{_≡_};
+ghost use Rattle.space.specs.declared.announcement.Announced.the-variants.{Waits};
+ghost use Rattle.space.specs.Announcements.{isAnnouncement, announcedSerial, announcedCode, announces as announces·, announcedOf};
+ghost use Rattle.space.specs.Spaces.{held};
+use crate::space::Space;
+use tuple::ANNOUNCING;
+use tuple::BOTTOM;
+use tuple::COUNT;
+use tuple::DEFINED;
+use tuple::OFFSET;
+use tuple::TUPLES;
+use tuple::Tuple;
+use tuple::WORD;
+use tuple::all_five;
+use tuple::is;
+use tuple::least;
+use tuple::says;
+
+// What a process has announced.
+pub enum Announced {
+    // Its serial and the code of its shift.
+    Waits(u64, u64),
+    // Nothing.
+    Silent,
+}
+
+// (word 4, count, count, offset), the offset not bottom
+pub fn is_announcement(tuple: Tuple) -> bool
+    ensures { λ r. ⌜ r ≡ isAnnouncement tuple ⌝ }
+{
+    let first = tuple.fields[0];
+    let second = tuple.fields[1];
+    let third = tuple.fields[2];
+    let fourth = tuple.fields[3];
+    let shaped = all_five(
+        tuple.count == 4,
+        says(first, WORD, ANNOUNCING),
+        is(second, COUNT, DEFINED),
+        is(third, COUNT, DEFINED),
+        is(fourth, OFFSET, DEFINED),
+    );
+    if shaped {
+        fourth.value != BOTTOM
+    } else {
+        false
+    }
+}
+
+// The oldest announcement of a process.
+pub fn oldest_announced(space: Space, process: u64) -> Announced
+    ensures { λ r. ⌜ r ≡ announcedOf (held space) process ⌝ }
+{
+    let count = least(space.count, TUPLES);
+    let mut i = 0;
+    while i < count {
+        let tuple = space.tuples[i];
+        if announces(process, tuple) {
+            return waits(tuple);
+        }
+        i += 1;
+    }
+    Announced::Silent
+}
+
+// Whether a tuple is an announcement of a process.
+fn announces(process: u64, tuple: Tuple) -> bool
+    ensures { λ r. ⌜ r ≡ announces· process tuple ⌝ }
+{
+    let second = tuple.fields[1];
+    if is_announcement(tuple) {
+        second.value == process
+    } else {
+        false
+    }
+}
+
+// The serial and the code of an announcement.
+fn waits(tuple: Tuple) -> Announced
+    ensures { λ r. ⌜ r ≡ Waits (announcedSerial tuple) (announcedCode tuple) ⌝ }
+{
+    let third = tuple.fields[2];
+    let fourth = tuple.fields[3];
+    Announced::Waits(third.value, fourth.value)
+}

@@ -1,7 +1,7 @@
 -- The laws of a call on a space, as claims over the definitions, in document 01's words.
 use mathlib.Core.Path.{_≡_}
-use mathlib.Core.Logic.{_↔_}
-use mathlib.Core.Bool.{true}
+use mathlib.Core.Logic.{_↔_, _⊎_}
+use mathlib.Core.Bool.{true, false}
 use mathlib.Core.List.{List, [], _∷_, _++_}
 use Prim.Native.Nat.{ℕ, _≤_, _<_}
 use lib.ListN.{length, getD}
@@ -14,7 +14,7 @@ use Rattle.policy.specs.Policies.{verdictOn}
 use Rattle.space.specs.declared.config.Config.{Config}
 use Rattle.space.specs.declared.space.Space.{Space}
 use Rattle.space.specs.Spaces.{held, spaceOf, wellFormed, Tidy}
-use Rattle.tuple.specs.declared.fault.Fault.the-variants.{Absent}
+use Rattle.tuple.specs.declared.fault.Fault.the-variants.{Absent, Present}
 use Rattle.tuple.specs.declared.field.Tuple.{Tuple}
 use Rattle.tuple.specs.declared.field.Call.{Call}
 use Rattle.tuple.specs.declared.matching.Found.the-variants.{At, Nowhere}
@@ -44,6 +44,26 @@ pub record Denied (why : Refusal) (space : Space) (call : Call) : Type 0 where
 
 abbrev pub DeniedRule : Type 0
 DeniedRule = (space : Space) (call : Call) (why : Refusal) → Denial why → (applied space call .reply .outcome ≡ Refused why) ↔ Denied why space call
+
+-- a call that comes to no refusal but 8
+pub record Obeyed (space : Space) (call : Call) : Type 0 where
+  pub formed : wellFormed space ≡ true
+  pub sound : callFault call ≡ Absent
+  pub known : (1 ≤ call .process) × (call .process ≤ space .config .n)
+  pub permitted : verdictOn (space .config) (held space) call ≡ Permit
+
+-- what a call is refused with, each refusal exactly when, in 01's order: 1, then 3 to 5 as the call's fault has them (`FaultRule`), then 6, then 7, 12 or 13, then 8
+pub data RefusedBy (space : Space) (call : Call) : Refusal → Type 0 where
+  unformed : wellFormed space ≡ false → RefusedBy space call (refusal 1)
+  faulty : (why : Refusal) → wellFormed space ≡ true → callFault call ≡ Present why → RefusedBy space call why
+  stranger : wellFormed space ≡ true → callFault call ≡ Absent → ((1 ≤ call .process) × (call .process ≤ space .config .n) → ⊥) → RefusedBy space call (refusal 6)
+  denied : (why : Refusal) → Denied why space call → RefusedBy space call why
+  -- an out, or a cas without match, where 128 tuples stand
+  full : Obeyed space call → 128 ≤ length (held space) → (call .code ≡ 1) ⊎ ((call .code ≡ 4) × (oldestOf (held space) (call .template) ≡ Nowhere))
+      → RefusedBy space call (refusal 8)
+
+abbrev pub RefusedRule : Type 0
+RefusedRule = (space : Space) (call : Call) (why : Refusal) → (applied space call .reply .outcome ≡ Refused why) ↔ RefusedBy space call why
 
 -- a refused call leaves the space as it was
 abbrev pub Unchanged : Type 0

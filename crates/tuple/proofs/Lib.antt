@@ -1,5 +1,6 @@
 pub mod Blanks
 pub mod FaultLaws
+pub mod FaultRules
 pub mod FieldLaws
 pub mod Lengths
 pub mod Lists

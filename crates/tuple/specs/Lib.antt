@@ -1,4 +1,5 @@
 pub mod Bounds
+pub mod FaultLaws
 pub mod Faults
 pub mod Fields
 pub mod Laws

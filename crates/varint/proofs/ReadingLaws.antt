@@ -1,19 +1,20 @@
--- The laws of reading a number: its value is bounded by its groups, what is written reads back, and what reads is what is written.
+-- The laws of reading a number: its value is bounded by its groups, what is written reads back, what reads is what is written, and when it is cut.
 use mathlib.Core.Path.{_≡_, refl, sym, ap, ap₂, _∙_, subst}
 use Prim.Native.Nat.{ℕ, zero, suc, _+_, _*_, _/_, _%_, _^_, _≤_, _<_}
 use native.Mathlib.Omega.{arith}
 use mathlib.Core.Bool.{Bool, true, false, cond}
 use mathlib.Core.List.{List, [], _∷_, _++_}
-use lib.ListN.{drop}
+use mathlib.Core.Logic.{_↔_}
+use lib.ListN.{length, drop, getD}
 use lib.Seq.{drop-at, drop-drop}
 use lib.Dec.{leb, ltb, eqb}
 use borrow.Author.Tests.{le-ltb, le-leb, ne-eqb, ltb-true, ltb-false, leb-true, eqb-false}
 use borrow.Table.Steps.{cases}
 use Rattle.varint.specs.declared.Number.{Number}
 use Rattle.varint.specs.declared.Number.the-variants.{Value, Cut, Overlong}
-use Rattle.varint.specs.Reading.{further, lastGroup, largest, joined, numberFrom, numberAt, Bytes}
+use Rattle.varint.specs.Reading.{further, lastGroup, largest, numberRefusal, joined, numberFrom, numberAt, Bytes}
 use Rattle.varint.specs.Writing.{bytesOf, widthOf}
-use Rattle.varint.specs.Laws.{ReadBack, OnlyForm}
+use Rattle.varint.specs.Laws.{ReadBack, OnlyForm, CutRule}
 use Rattle.varint.proofs.WritingLaws.{bytes-last, bytes-step}
 
 -- the largest number that `more` groups behind the first hold
@@ -130,3 +131,44 @@ only-form s at value next bytes e =
     ∙ ap (drop (widthOf value)) (form .2)
     ∙ drop-at (bytesOf value) (form .0) (widthOf value) refl in
     (within, form .1, form .2 ∙ ap (λ (l : List ℕ). bytesOf value ++ l) (sym behind))
+
+-- ---- when it is cut
+
+-- at most `more` bytes are left, and each of them goes on
+abbrev Ends : ℕ → List ℕ → Type 0
+Ends more l = (length l ≤ more) × ((i : ℕ) → i < length l → 128 ≤ getD l i 0)
+
+joined-cut : (byte : ℕ) (r : Number) → (numberRefusal (joined byte r) ≡ 2) ↔ (numberRefusal r ≡ 2)
+unfolding joined
+joined-cut byte (Value value next) = (
+  picked (λ (r : Number). numberRefusal r ≡ 2 → numberRefusal (Value value next) ≡ 2) (eqb value 0) (λ e h. absurd (omega arith)) (λ e h. h),
+  λ h. absurd (omega arith),
+)
+joined-cut byte Cut = (λ h. h, λ h. h)
+joined-cut byte Overlong = (λ h. h, λ h. h)
+
+cut-from : (more : ℕ) (l : List ℕ) (at : ℕ) → (numberRefusal (numberFrom more l at) ≡ 2) ↔ Ends more l
+unfolding numberFrom
+cut-from zero [] at = (λ h. (omega arith, λ i below. absurd (omega arith)), λ h. refl)
+cut-from (suc more) [] at = (λ h. (omega arith, λ i below. absurd (omega arith)), λ h. refl)
+cut-from zero (byte ∷ l) at = (
+  picked (λ (r : Number). numberRefusal r ≡ 2 → Ends zero (byte ∷ l)) (leb byte lastGroup) (λ e h. absurd (omega arith)) (λ e h. absurd (omega arith)),
+  λ ends. absurd (omega (arith, ends .0)),
+)
+cut-from (suc more) (byte ∷ l) at =
+    let rest = cut-from more l (at + 1) in
+    let joint = joined-cut byte (numberFrom more l (at + 1)) in (
+      picked (λ (r : Number). numberRefusal r ≡ 2 → Ends (suc more) (byte ∷ l)) (ltb byte 128)
+          (λ e h. absurd (omega arith))
+          (λ e h. let behind = rest .0 (joint .0 h) in
+          (omega (arith, behind .0), elim [ zero ↦ λ below. ltb-false byte 128 e | suc i ↦ λ below. behind .1 i (omega arith) ])),
+      λ ends. rw (le-ltb byte 128 (ends .1 0 (omega arith))) (joint .1 (rest .1 (omega (arith, ends .0), λ i below. ends .1 (suc i) (omega arith)))),
+    )
+
+pub cut-rule : CutRule
+unfolding numberAt
+cut-rule s at =
+    let cut = cut-from further (drop at s) at in (
+      λ h. let ends = cut .0 h in (omega (arith, ends .0), ends .1),
+      λ h. cut .1 (omega (arith, h .0), h .1),
+    )

@@ -4,11 +4,12 @@ use Prim.Native.Nat.{ℕ, zero, suc, _+_, _*_, _/_, _%_, _^_, _≤_, _<_}
 use native.Mathlib.Omega.{arith}
 use mathlib.Core.List.{List, [], _∷_}
 use lib.ListN.{length}
-use lib.Dec.{ltb}
-use borrow.Author.Tests.{lt-ltb, le-ltb, le-leb, lt-leb, ltb-true, ltb-false}
+use lib.Dec.{leb, ltb}
+use borrow.Author.Tests.{lt-ltb, le-ltb, le-leb, lt-leb, ltb-true, ltb-false, leb-true, leb-false}
 use borrow.Table.Steps.{cases}
 use Rattle.varint.specs.Reading.{largest}
-use Rattle.varint.specs.Writing.{groupsOf, bytesOf, widthOf, stored, writtenAt, leftAt}
+use Rattle.varint.specs.Writing.{groupsOf, bytesOf, widthOf, stored, writtenRefusal, writtenAt, leftAt}
+use Rattle.varint.specs.Laws.{WriteRule, WriteRules}
 use Rattle.varint.specs.declared.Written.the-variants.{Next, Beyond, NoRoom}
 
 -- the first number that `more` groups behind the first do not hold
@@ -110,3 +111,36 @@ written-next s at value held fits = (
   rw (le-ltb largest value held, le-leb (at + widthOf value) (length s) fits),
   rw (le-ltb largest value held, le-leb (at + widthOf value) (length s) fits),
 )
+
+-- ---- when it is refused, and with which number
+
+module _ (s : List ℕ) (at value : ℕ) where
+  rule-beyond : largest < value → WriteRule s at value
+  rule-beyond large =
+      let w = written-beyond s at value large in
+      let three : 3 ≡ writtenRefusal (writtenAt (length s) at value) = ap writtenRefusal (w .0) in
+      record { beyond = (λ h. large, λ h. sym three); no-room = (λ h. absurd (omega (arith, three, h)), λ h. absurd (omega (arith, h .0))); kept = λ h. sym (w .1) }
+
+  rule-full : value ≤ largest → length s < at + widthOf value → WriteRule s at value
+  rule-full small full =
+      let w = written-full s at value small full in
+      let ten : 10 ≡ writtenRefusal (writtenAt (length s) at value) = ap writtenRefusal (w .0) in
+      record { beyond = (λ h. absurd (omega (arith, ten, h)), λ h. absurd (omega arith)); no-room = (λ h. (small, full), λ h. sym ten); kept = λ h. sym (w .1) }
+
+  rule-next : value ≤ largest → at + widthOf value ≤ length s → WriteRule s at value
+  rule-next small fits =
+      let w = written-next s at value small fits in
+      let none : 0 ≡ writtenRefusal (writtenAt (length s) at value) = ap writtenRefusal (w .0) in
+      record {
+        beyond = (λ h. absurd (omega (arith, none, h)), λ h. absurd (omega arith));
+        no-room = (λ h. absurd (omega (arith, none, h)), λ h. absurd (omega (arith, h .1)));
+        kept = λ h. absurd (h (sym none));
+      }
+
+pub write-rules : WriteRules
+write-rules s at value =
+    cases (ltb largest value)
+    (λ e. rule-beyond s at value (ltb-true largest value e))
+    (λ e. cases (leb (at + widthOf value) (length s))
+    (λ fits. rule-next s at value (ltb-false largest value e) (leb-true _ _ fits))
+    (λ full. rule-full s at value (ltb-false largest value e) (leb-false _ _ full)))

@@ -1,46 +1,29 @@
--- The refusals of a start in their order, the first reading, that a refused reply leaves the state as before, and that a decided state repeats its
--- decision. From the definitions of starting a process and handing it a reply.
+-- The first reading, that a refused reply leaves the state as before, and that a decided state repeats its decision. From the definition of handing it a
+-- reply.
 use mathlib.Core.Path.{_≡_, refl}
-use mathlib.Core.Bool.{false, _||_, _&&_, or-true, and-false, and-eq-true-iff}
-use mathlib.Core.Logic.{_⊎_, ⊎-elim}
-use Prim.Native.Nat.{ℕ, _≤_}
+use mathlib.Core.Bool.{_||_, or-true, and-eq-true-iff}
+use Prim.Native.Nat.{ℕ}
 use native.Mathlib.Omega.{arith}
-use borrow.Author.Tests.{le-ltb}
 use borrow.Table.Steps.{cases}
 use Rattle.process.specs.declared.process.Next.the-variants.{Refuses}
 use Rattle.process.specs.declared.process.Phase.{Phase}
 use Rattle.process.specs.declared.process.Phase.the-variants.{Proposing, Reading, Deciding, Decided}
 use Rattle.process.specs.declared.process.Process.{Process}
 use Rattle.process.specs.Fits.{fits}
-use Rattle.process.specs.Laws.{StartOrders, ReadsFirst, Unmoved, Repeats}
-use Rattle.process.specs.Procedure.{proposable, started, noted, advanced, isDecided, resumed}
+use Rattle.process.specs.Laws.{ReadsFirst, Unmoved, Repeats}
+use Rattle.process.specs.Procedure.{noted, advanced, isDecided, resumed}
 use Rattle.process.specs.States.{foundSound, wellFormed}
 use Rattle.process.specs.Tallies.{settled}
 use Rattle.process.proofs.StateLaws.{formed-parts, none-at, none-found}
-use Rattle.space.specs.declared.config.Config.{Config}
-use Rattle.space.specs.Bounds.{rounds}
-use Rattle.space.specs.Proposals.{offered}
-use Rattle.space.specs.Shapes.{inRounds}
-use Rattle.tuple.specs.declared.offset.Offset.{Offset}
 use Rattle.tuple.specs.declared.refusal.Refusal.{Refusal}
 use Rattle.tuple.specs.declared.reply.Reply.{Reply}
-use Rattle.tuple.specs.Offsets.{codeOf}
-
-beyond-test : (config : Config) (round : ℕ) (offset : Offset) → (rounds ≤ round) ⊎ (offered config (codeOf offset) ≡ false)
-    → inRounds round && proposable config offset ≡ false
-beyond-test config round offset = ⊎-elim (λ late. rw (le-ltb round rounds late)) (λ none. rw (none, and-false, and-false))
-
-pub start-order : StartOrders
-unfolding started
-start-order config process round offset =
-    record { unsound = λ e. rw e; stranger = λ start e. rw (start, e); beyond = λ start member e. rw (start, member, beyond-test config round offset e) }
 
 pub reads-first : ReadsFirst
 unfolding resumed
 reads-first process reply formed proposing fit = rw (formed, fit, or-true, proposing)
 
 -- what a reply that fits leads to is no refusal
-advances : (process : Process) (reply : Reply) (phase : Phase) (why : Refusal) → advanced process reply phase .next ≡ Refuses why → ⊥
+pub advances : (process : Process) (reply : Reply) (phase : Phase) (why : Refusal) → advanced process reply phase .next ≡ Refuses why → ⊥
 advances process reply Proposing why = λ h. let z : _≡_ {A = ℕ} 0 1 = cc in omega arith
 advances process reply (Reading asked) why =
     cases (settled (process .config) (noted (process .found) asked (reply .tuple) (reply .outcome)))

@@ -6,6 +6,7 @@ pub mod KeptLaws
 mod Lengths
 pub mod NextLaws
 mod OffsetSteps
+pub mod OrderLaws
 pub mod ReachLaws
 pub mod StateLaws
 mod StateSteps

@@ -5,23 +5,23 @@ use mathlib.Core.Bool.{true, false}
 use mathlib.Core.List.{List}
 use Prim.Native.Nat.{ℕ, _+_, _-_, _*_, _≤_, _<_}
 use lib.Count.{ones}
-use lib.IntN.{pos}
+use lib.IntN.{ℤ, pos, natAbs}
 use lib.ListN.{length}
 use Rattle.process.specs.declared.process.Next.the-variants.{Decides, Refuses}
 use Rattle.process.specs.declared.process.Phase.the-variants.{Proposing, Decided}
 use Rattle.process.specs.declared.process.Process.{Process}
 use Rattle.process.specs.Asks.{rdpCall}
 use Rattle.process.specs.Fits.{fits}
-use Rattle.process.specs.Procedure.{started, resumed}
+use Rattle.process.specs.Procedure.{begun, started, resumed}
 use Rattle.process.specs.Reachable.{Reachable}
 use Rattle.process.specs.States.{startable, foundSound, wellFormed}
 use Rattle.process.specs.Tallies.{foundOf, backs, backing, backingSet, backed, settled, total, nextAfter}
 use Rattle.space.specs.declared.config.Config.{Config}
-use Rattle.space.specs.Bounds.{processes, rounds}
-use Rattle.space.specs.Configs.{sound, known}
+use Rattle.space.specs.Bounds.{processes}
+use Rattle.space.specs.Configs.{sound}
+use Rattle.space.specs.Laws.{Sound}
 use Rattle.space.specs.Members.{Member}
 use Rattle.policy.specs.Shapes.{decidedCode}
-use Rattle.space.specs.Proposals.{offered}
 use Rattle.space.specs.Shapes.{proposedCode}
 use Rattle.tuple.specs.declared.offset.Offset.{Offset}
 use Rattle.tuple.specs.declared.offset.Offset.the-variants.{Hundredths}
@@ -63,14 +63,38 @@ ChoiceFits = (process : Process) (reply : Reply) → process .config .policy ≡
 abbrev pub StartableRule : Type 0
 StartableRule = (config : Config) → (startable config ≡ true) ↔ ((sound config ≡ true) × ((config .policy ≡ 2) ⊎ (config .policy ≡ 3)))
 
--- starting is refused with 1, 6, 3: the first that holds
+-- what a start needs of the configuration, of the process, and of the round and the offset
+abbrev pub MayStart : Config → Type 0
+MayStart config = Sound config × ((config .policy ≡ 2) ⊎ (config .policy ≡ 3))
+
+abbrev pub IsProcess : Config → ℕ → Type 0
+IsProcess config process = (1 ≤ process) × (process ≤ config .n)
+
+-- rounds are 0 to 7; a number from -100,000 to 100,000, and no bottom; under policy 3 one of 0 to k - 1
+pub record MayPropose (config : Config) (round : ℕ) (offset : Offset) : Type 0 where
+  pub early : round ≤ 7
+  pub number : (z : ℤ) × (offset ≡ Hundredths z) × (natAbs z ≤ 100_000)
+  pub choice : config .policy ≡ 3 → (z : ℕ) × (z < config .k) × (offset ≡ Hundredths (pos z))
+
+-- starting is refused with 1, 6, 3, each exactly when it is the first that holds; else it begins with its proposal
 pub record StartOrder (config : Config) (process round : ℕ) (offset : Offset) : Type 0 where
-  pub unsound : startable config ≡ false → started config process round offset .next ≡ Refuses (refusal 1)
-  pub stranger : startable config ≡ true → known config process ≡ false → started config process round offset .next ≡ Refuses (refusal 6)
-  pub beyond : startable config ≡ true → known config process ≡ true → (rounds ≤ round) ⊎ (offered config (codeOf offset) ≡ false) → started config process round offset .next ≡ Refuses (refusal 3)
+  pub unsound : (started config process round offset .next ≡ Refuses (refusal 1)) ↔ (MayStart config → ⊥)
+  pub stranger : (started config process round offset .next ≡ Refuses (refusal 6)) ↔ (MayStart config × (IsProcess config process → ⊥))
+  pub beyond : (started config process round offset .next ≡ Refuses (refusal 3))
+      ↔ (MayStart config × IsProcess config process × (MayPropose config round offset → ⊥))
+  pub begins : MayStart config → IsProcess config process → MayPropose config round offset → started config process round offset ≡ begun config process round offset
 
 abbrev pub StartOrders : Type 0
 StartOrders = (config : Config) (process round : ℕ) (offset : Offset) → StartOrder config process round offset
+
+-- handing a reply is refused with 1, 11, each exactly when it is the first that holds; one that has decided is refused none
+pub record HandOrder (process : Process) (reply : Reply) : Type 0 where
+  pub unformed : (resumed process reply .next ≡ Refuses (refusal 1)) ↔ (wellFormed process ≡ false)
+  pub unfit : (resumed process reply .next ≡ Refuses (refusal 11))
+      ↔ ((wellFormed process ≡ true) × ((code : ℕ) → process .phase ≡ Decided code → ⊥) × (fits process reply ≡ false))
+
+abbrev pub HandOrders : Type 0
+HandOrders = (process : Process) (reply : Reply) → HandOrder process reply
 
 -- when its proposal is done, it reads the process 1 first
 abbrev pub ReadsFirst : Type 0

@@ -2,3 +2,4 @@ pub mod AnnouncingLaws
 pub mod DecisionLaws
 pub mod ListingLaws
 pub mod PolicyLaws
+pub mod ShapeLaws

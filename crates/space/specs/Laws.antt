@@ -2,7 +2,7 @@
 use mathlib.Core.Path.{_≡_}
 use mathlib.Core.Logic.{_↔_, _⊎_}
 use mathlib.Core.Bool.{Bool, true, false}
-use mathlib.Core.List.{List}
+use mathlib.Core.List.{List, [], _∷_}
 use Prim.Native.Nat.{ℕ, _+_, _*_, _≤_, _<_}
 use lib.Count.{ones}
 use lib.IntN.{pos}
@@ -16,13 +16,13 @@ use Rattle.space.specs.Configs.{sound, hasProposals, hasList}
 use Rattle.space.specs.Lists.{isListTuple, listTuple, positionOf, serialOf, shiftCode, isFilled, isListed, Filled, Listed}
 use Rattle.space.specs.Members.{Member, within, every, counted}
 use Rattle.space.specs.Proposals.{offered, decidable, proposed, backers, crowded, Placed, Proposed}
-use Rattle.space.specs.Shapes.{processOf}
+use Rattle.space.specs.Shapes.{isProposal, processOf}
 use Rattle.space.specs.Spaces.{wellFormed, Typed, Tidy}
 use Rattle.tuple.specs.declared.field.Tuple.{Tuple}
 use Rattle.tuple.specs.declared.offset.Offset.{Offset}
 use Rattle.tuple.specs.declared.offset.Offset.the-variants.{Bottom, Hundredths}
 use Rattle.tuple.specs.Bounds.{places, capacity}
-use Rattle.tuple.specs.Faults.{isEntry}
+use Rattle.tuple.specs.Faults.{isEntry, restBlank}
 use Rattle.tuple.specs.Fields.{blankTuple}
 use Rattle.tuple.specs.Offsets.{inRange, codeOf}
 use Rattle.tuple.specs.Shapes.{field}
@@ -65,6 +65,28 @@ TallyRule =
     → (q : ℕ) × ((k : ℕ) → Member k q ↔ (Member k set × (test k ≡ true))) × (ones q ≡ counted test n 1 set)
 
 -- ---- proposals
+
+-- (word 1, count r, count q, offset v), in numbers: kinds 1 word, 2 count, 3 offset; state 0
+abbrev pub proposalOf : ℕ → ℕ → ℕ → Tuple
+proposalOf round process code =
+    record {
+      count = 4;
+      fields = record { kind = 1; state = 0; value = 1 }
+        ∷ record { kind = 2; state = 0; value = round }
+        ∷ record { kind = 2; state = 0; value = process }
+        ∷ record { kind = 3; state = 0; value = code }
+        ∷ record { kind = 0; state = 0; value = 0 }
+        ∷ record { kind = 0; state = 0; value = 0 }
+        ∷ [];
+    }
+
+-- of a tuple of six places whose unused parts are zero: it is a proposal exactly when it is that of its second, third and fourth field
+abbrev pub ProposalMade : Type 0
+ProposalMade =
+    (tuple : Tuple)
+    → length (tuple .fields) ≡ 6
+    → restBlank tuple true ≡ true
+    → (isProposal tuple ≡ true) ↔ (tuple ≡ proposalOf (field tuple 1 .value) (field tuple 2 .value) (field tuple 3 .value))
 
 -- every offset in range may be proposed but bottom, unless the policy is 3
 abbrev pub OfferedRule : Type 0

@@ -261,7 +261,7 @@ rest-rule (suc count) (f ∷ fields) =
     )
 
 module _ (tuple : Tuple) (six : length (tuple .fields) ≡ places) where
-  used-rest : (restBlank tuple true ≡ true) ↔ ZeroRest tuple
+  pub used-rest : (restBlank tuple true ≡ true) ↔ ZeroRest tuple
   unfolding restBlank
   used-rest =
       let rest = rest-rule (tuple .count) (tuple .fields) in (

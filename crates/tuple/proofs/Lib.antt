@@ -4,6 +4,7 @@ pub mod FaultRules
 pub mod FieldLaws
 pub mod Lengths
 pub mod Lists
+pub mod Made
 pub mod MatchRules
 pub mod MatchingLaws
 pub mod NoFault

@@ -1,17 +1,16 @@
--- Refusals 7, 12 and 13, refused calls, well-formed spaces and a permitted cas: what a call answers and leaves, in document 01's words.
+-- Refusals 7, 12 and 13, refused calls and well-formed spaces: what a call answers and leaves, in document 01's words.
 use mathlib.Core.Path.{_≡_, refl, sym, ap, _∙_, subst}
 use Prim.Native.Nat.{_≤_}
 use mathlib.Core.Bool.{true}
-use lib.ListN.{length}
 use native.Mathlib.Omega.{arith}
 use mathlib.Core.List.{List}
-use borrow.Author.Tests.{lt-ltb, le-ltb, le-leb}
+use borrow.Author.Tests.{le-leb}
 use Rattle.calls.specs.declared.change.Change.{Change}
 use Rattle.calls.specs.declared.change.Change.the-variants.{Keep}
 use Rattle.calls.specs.declared.turn.Applied.{Applied}
 use Rattle.calls.specs.Changes.{carriedOut}
-use Rattle.calls.specs.Laws.{Denied, DeniedRule, Unchanged, Kept, CasRules}
-use Rattle.calls.specs.Effects.{casEffect, effect}
+use Rattle.calls.specs.Laws.{Denied, DeniedRule, Unchanged, Kept}
+use Rattle.calls.specs.Effects.{effect}
 use Rattle.calls.specs.Turns.{firstRefusal, judged, carriedBy, applied}
 use Rattle.calls.proofs.CallSteps.{Puts, Moves, moves, denial-late, denial-never, Steps, formed-bounded, steps}
 use Rattle.calls.proofs.RunSteps.{next, run-tidy, run-formed}
@@ -28,9 +27,7 @@ use Rattle.tuple.specs.declared.fault.Fault.the-variants.{Absent}
 use Rattle.tuple.specs.declared.refusal.Refusal.{Refusal}
 use Rattle.tuple.specs.declared.reply.Outcome.{Outcome}
 use Rattle.tuple.specs.declared.reply.Outcome.the-variants.{Refused}
-use Rattle.tuple.specs.Bounds.{capacity}
 use Rattle.tuple.specs.Faults.{callFault}
-use Rattle.tuple.specs.Matching.{oldestOf}
 use Rattle.tuple.specs.Refusals.{numberOf, refusal}
 
 -- a call that is obeyed is refused 8 or not at all, and refused it leaves the tuples
@@ -81,14 +78,3 @@ pub permitted-applied : (space : Space) (call : Call) → wellFormed space ≡ t
 unfolding applied judged firstRefusal verdict known
 permitted-applied space call formed faultless member permitted =
     rw (formed, formed-bounded space formed, faultless, le-leb 1 (call .process) (member .0), le-leb (call .process) (space .config .n) (member .1), permitted)
-
-pub cas-rules : CasRules
-unfolding effect
-cas-rules space call asked =
-    let does : applied space call ≡ carriedBy space call (casEffect (held space) (oldestOf (held space) (call .template))) =
-    permitted-applied space call (asked .formed) (asked .sound) (asked .known) (asked .permitted) ∙ rw (asked .code) refl in
-    record {
-      held-there = λ i at. ap (λ (a : Applied). a .reply) does ∙ rw at refl;
-      inserted = λ none room. ap (λ (a : Applied). a .reply .outcome) does ∙ rw (none, lt-ltb (length (held space)) capacity room) refl;
-      full = λ none many. ap (λ (a : Applied). a .reply .outcome) does ∙ rw (none, le-ltb (length (held space)) capacity many) refl;
-    }

@@ -12,6 +12,7 @@ pub mod Keys
 pub mod ListSteps
 pub mod ListingLaws
 pub mod NeverFullLaws
+pub mod ObeyedLaws
 pub mod ReadingLaws
 pub mod RefusedLaws
 pub mod RunSteps

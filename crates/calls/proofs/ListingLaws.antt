@@ -13,11 +13,12 @@ use borrow.Author.Tests.{eqb-true, eqb-false, lt-ltb, le-leb, eq-eqb, ne-eqb}
 use borrow.Table.Steps.{cases}
 use Rattle.calls.specs.declared.turn.Applied.{Applied}
 use Rattle.calls.specs.Effects.{effect}
-use Rattle.calls.specs.Laws.{Asked}
+use Rattle.calls.specs.Laws.{Obeyed, Answers}
 use Rattle.calls.specs.ListLaws.{ListingRules, ListAlones, ListGrows, AnnouncingRules, NextListed, NextDues, NextAnnounced, TakenRule, HandedIns}
 use Rattle.calls.specs.Lists.{listOf, listAfter, listFor, listCas, announceOut, OwnCas, ListedBy}
 use Rattle.calls.specs.Turns.{applied, turnsFrom, turns, lastOf, after, last}
-use Rattle.calls.proofs.CallLaws.{denied-rule, permitted-applied, cas-rules}
+use Rattle.calls.proofs.CallLaws.{denied-rule, permitted-applied}
+use Rattle.calls.proofs.ObeyedLaws.{obeyed-rules}
 use Rattle.calls.proofs.ChangeLaws.{carried-rules}
 use Rattle.calls.proofs.ListSteps.{listed-mem, mem-listed, Entry, Orderly, orderly-few, orderly-all, Kind, announcement-other, key, apart-differ, Shared, shared-none, shared-few, Lists, Grown, list-advance, list-keeps}
 use Rattle.calls.proofs.RunSteps.{Run, held-run, fresh-space, fresh-run, after-run}
@@ -48,6 +49,7 @@ use Rattle.tuple.specs.declared.field.Tuple.{Tuple}
 use Rattle.tuple.specs.declared.field.Call.{Call}
 use Rattle.tuple.specs.declared.matching.Found.the-variants.{At, Nowhere}
 use Rattle.tuple.specs.declared.reply.Outcome.the-variants.{Done, Inserted, Held, Refused}
+use Rattle.tuple.specs.declared.reply.Reply.{Reply}
 use Rattle.tuple.specs.Bounds.{capacity, largestCount, largestCode}
 use Rattle.tuple.specs.Faults.{isEntry, callFault, usedFault, usesTemplate, usesEntry, partFault, tupleFault, fieldsFault, fieldFault, knownHead, restBlank, restFrom, placeBlank, isBlank}
 use Rattle.tuple.specs.Fields.{cas, count, defined, largestOf, blankTuple}
@@ -315,13 +317,12 @@ module _ (config : Config) (safe : sound config ≡ true) (shares : hasList conf
       })
 
   module _ (unlisted : Listed tuples process serial → ⊥) (due : isDue config tuples call ≡ true) where
-    pub asked : Asked space call
-    asked =
+    pub obeyed : Obeyed space call
+    obeyed =
         record {
           formed = formed;
           sound = faultless;
           known = (one, most);
-          code = refl;
           permitted = rw (held-of config tuples) (cas-permitted config tuples call shares refl .1 (list-call unlisted, due));
         }
 
@@ -338,14 +339,15 @@ module _ (config : Config) (safe : sound config ≡ true) (shares : hasList conf
             (λ e. e)
         missed tuple m (Kind.waits five shape some′ few) = five-other position tuple shape
 
+    next-answers : position ≡ length (listOf tuples) + 1 → Answers space call Inserted blankTuple (held space ++ (call .entry ∷ []))
+    next-answers next = obeyed-rules space call obeyed .cas-inserted refl (rw (held-of config tuples) (unmatched next)) (rw (held-of config tuples) (shared-few safe keeps))
+
     pub next-inserted : position ≡ length (listOf tuples) + 1 → applied space call .reply .outcome ≡ Inserted
-    next-inserted next = cas-rules space call asked .inserted (rw (held-of config tuples) (unmatched next)) (rw (held-of config tuples) (shared-few safe keeps))
+    next-inserted next = ap (λ (r : Reply). r .outcome) (next-answers next .reply)
 
     pub next-space : position ≡ length (listOf tuples) + 1 → applied space call .space ≡ spaceOf config (tuples ++ (listTuple position process serial code ∷ []))
-    unfolding effect
     next-space next =
-        ap (λ (a : Applied). a .space) (permitted-applied space call formed faultless (one, most) (asked .permitted))
-        ∙ rw (held-of config tuples, unmatched next, lt-ltb (length tuples) capacity (shared-few safe keeps)) (carried-rules config tuples (call .entry) .append (shared-few safe keeps))
+        next-answers next .leaves (ap (spaceOf config) (held-of config tuples)) ∙ ap (λ (l : List Tuple). spaceOf config (l ++ (call .entry ∷ []))) (held-of config tuples)
 
 own-true : (process : ℕ) → eqb process process ≡ true
 own-true process = eq-eqb process process refl
@@ -385,9 +387,9 @@ taken-rule config calls process position serial code safe is-four first filled o
     let space = spaceOf config tuples in
     record {
       read = λ unlisted.
-          let question = asked config safe shares tuples (end .shared) (end .lawful) process position process serial code first (omega (arith, listed, long)) (omega (arith, listed, long)) one most (omega arith) small some inside
+          let question = obeyed config safe shares tuples (end .shared) (end .lawful) process position process serial code first (omega (arith, listed, long)) (omega (arith, listed, long)) one most (omega arith) small some inside
           (rw (end .holds) at unlisted) (nothing-owed config tuples _ is-four ∙ own-true process) in
-          rw (end .lists, whole, end .space) (rw (held-of config tuples) at (cas-rules space (listCas process position serial code) question .held-there i (rw (held-of config tuples) at)));
+          rw (end .lists, whole, end .space) (rw (held-of config tuples) at (obeyed-rules space (listCas process position serial code) question .cas-held refl i (rw (held-of config tuples) at) .reply));
       denied = λ found. rw (end .space) (listed-denied config safe shares tuples (end .shared) (end .lawful) process position process serial code first (omega (arith, listed, long)) (omega (arith, listed, long)) one most (omega arith) small some inside
           (rw (end .holds) at found));
     }

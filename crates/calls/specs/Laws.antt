@@ -3,7 +3,7 @@ use mathlib.Core.Path.{_≡_}
 use mathlib.Core.Logic.{_↔_, _⊎_}
 use mathlib.Core.Bool.{true, false}
 use mathlib.Core.List.{List, [], _∷_, _++_}
-use Prim.Native.Nat.{ℕ, _≤_, _<_}
+use Prim.Native.Nat.{ℕ, _+_, _≤_, _<_}
 use lib.ListN.{length, getD}
 use Rattle.calls.specs.declared.change.Change.the-variants.{Append, Remove}
 use Rattle.calls.specs.Changes.{without, carriedOut}
@@ -19,10 +19,11 @@ use Rattle.tuple.specs.declared.field.Tuple.{Tuple}
 use Rattle.tuple.specs.declared.field.Call.{Call}
 use Rattle.tuple.specs.declared.matching.Found.the-variants.{At, Nowhere}
 use Rattle.tuple.specs.declared.refusal.Refusal.{Refusal}
-use Rattle.tuple.specs.declared.reply.Outcome.the-variants.{Inserted, Held, Refused}
+use Rattle.tuple.specs.declared.reply.Outcome.{Outcome}
+use Rattle.tuple.specs.declared.reply.Outcome.the-variants.{Done, None, Found, Inserted, Held, Refused}
 use Rattle.tuple.specs.Bounds.{capacity}
 use Rattle.tuple.specs.Faults.{callFault}
-use Rattle.tuple.specs.Fields.{cas, blankTuple}
+use Rattle.tuple.specs.Fields.{blankTuple}
 use Rattle.tuple.specs.Matching.{oldestOf}
 use Rattle.tuple.specs.Refusals.{refusal}
 
@@ -73,20 +74,34 @@ Unchanged = (space : Space) (call : Call) (why : Refusal) → applied space call
 abbrev pub Kept : Type 0
 Kept = (space : Space) (call : Call) → Tidy space → wellFormed space ≡ true → Tidy (applied space call .space) × (wellFormed (applied space call .space) ≡ true)
 
--- ---- a cas that is permitted
+-- ---- a call that is obeyed
 
-pub record Asked (space : Space) (call : Call) : Type 0 where
-  pub formed : wellFormed space ≡ true
-  pub sound : callFault call ≡ Absent
-  pub known : (1 ≤ call .process) × (call .process ≤ space .config .n)
-  pub code : call .code ≡ cas
-  pub permitted : verdictOn (space .config) (held space) call ≡ Permit
+-- it answers this outcome with this tuple, and leaves these tuples
+pub record Answers (space : Space) (call : Call) (outcome : Outcome) (tuple : Tuple) (left : List Tuple) : Type 0 where
+  pub reply : applied space call .reply ≡ record { outcome = outcome; tuple = tuple }
+  pub leaves : Tidy space → applied space call .space ≡ spaceOf (space .config) left
 
--- held if a tuple matches, with the oldest; else inserted, or refused 8 where 128 tuples stand
-pub record CasRule (space : Space) (call : Call) : Type 0 where
-  pub held-there : (i : ℕ) → oldestOf (held space) (call .template) ≡ At i → applied space call .reply ≡ record { outcome = Held; tuple = getD (held space) i blankTuple }
-  pub inserted : oldestOf (held space) (call .template) ≡ Nowhere → length (held space) < 128 → applied space call .reply .outcome ≡ Inserted
-  pub full : oldestOf (held space) (call .template) ≡ Nowhere → 128 ≤ length (held space) → applied space call .reply .outcome ≡ Refused (refusal 8)
+-- out appends its entry; rdp answers with the oldest that matches, or none; inp answers the same and takes that one off; cas is held with the oldest that
+-- matches, or else appends its entry. Where no tuple is answered, a blank one stands. For 8, see `RefusedRule`
+pub record ObeyedRule (space : Space) (call : Call) : Type 0 where
+  pub out-done : call .code ≡ 1 → length (held space) < 128 → Answers space call Done blankTuple (held space ++ (call .entry ∷ []))
+  pub rdp-found : call .code ≡ 2 → (i : ℕ) → oldestOf (held space) (call .template) ≡ At i → Answers space call Found (getD (held space) i blankTuple) (held space)
+  pub rdp-none : call .code ≡ 2 → oldestOf (held space) (call .template) ≡ Nowhere → Answers space call None blankTuple (held space)
+  pub inp-found : call .code ≡ 3 → (i : ℕ) → oldestOf (held space) (call .template) ≡ At i
+      → Answers space call Found (getD (held space) i blankTuple) (without i (held space))
+  pub inp-none : call .code ≡ 3 → oldestOf (held space) (call .template) ≡ Nowhere → Answers space call None blankTuple (held space)
+  pub cas-held : call .code ≡ 4 → (i : ℕ) → oldestOf (held space) (call .template) ≡ At i → Answers space call Held (getD (held space) i blankTuple) (held space)
+  pub cas-inserted : call .code ≡ 4 → oldestOf (held space) (call .template) ≡ Nowhere → length (held space) < 128
+      → Answers space call Inserted blankTuple (held space ++ (call .entry ∷ []))
 
-abbrev pub CasRules : Type 0
-CasRules = (space : Space) (call : Call) → Asked space call → CasRule space call
+abbrev pub ObeyedRules : Type 0
+ObeyedRules = (space : Space) (call : Call) → Obeyed space call → ObeyedRule space call
+
+-- what stood before a tuple that is taken off keeps its place, what stood behind it moves by one, and one tuple less is left
+pub record WithoutRule (i : ℕ) (tuples : List Tuple) : Type 0 where
+  pub before : (j : ℕ) → j < i → getD (without i tuples) j blankTuple ≡ getD tuples j blankTuple
+  pub behind : (j : ℕ) → i ≤ j → getD (without i tuples) j blankTuple ≡ getD tuples (j + 1) blankTuple
+  pub less : length (without i tuples) + 1 ≡ length tuples
+
+abbrev pub WithoutRules : Type 0
+WithoutRules = (i : ℕ) (tuples : List Tuple) → i < length tuples → WithoutRule i tuples

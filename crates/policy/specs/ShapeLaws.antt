@@ -17,21 +17,23 @@ abbrev pub part : ℕ → ℕ → ℕ → Field
 part kind state value = record { kind = kind; state = state; value = value }
 
 -- (word 2, count r, and one field more), and with two
-abbrev pub three : Tuple → Field → Tuple
-three tuple third =
-    record { count = 3; fields = part 1 0 2 ∷ part 2 0 (field tuple 1 .value) ∷ third ∷ part 0 0 0 ∷ part 0 0 0 ∷ part 0 0 0 ∷ [] }
+abbrev pub three : ℕ → Field → Tuple
+three round third = record { count = 3; fields = part 1 0 2 ∷ part 2 0 round ∷ third ∷ part 0 0 0 ∷ part 0 0 0 ∷ part 0 0 0 ∷ [] }
 
-abbrev pub four : Tuple → Field → Field → Tuple
-four tuple third fourth =
-    record { count = 4; fields = part 1 0 2 ∷ part 2 0 (field tuple 1 .value) ∷ third ∷ fourth ∷ part 0 0 0 ∷ part 0 0 0 ∷ [] }
+abbrev pub four : ℕ → Field → Field → Tuple
+four round third fourth = record { count = 4; fields = part 1 0 2 ∷ part 2 0 round ∷ third ∷ fourth ∷ part 0 0 0 ∷ part 0 0 0 ∷ [] }
+
+-- (word 2, count r, offset v, seats P)
+abbrev pub decisionOf : ℕ → ℕ → ℕ → Tuple
+decisionOf round code set = four round (part 3 0 code) (part 4 0 set)
 
 abbrev pub Shape : (Tuple → Bool) → (Tuple → Tuple) → Type 0
 Shape test made = (tuple : Tuple) → length (tuple .fields) ≡ 6 → restBlank tuple true ≡ true → (test tuple ≡ true) ↔ (tuple ≡ made tuple)
 
 pub record DecisionShapes : Type 0 where
   -- policy 1: (word 2, count r, open offset) and (word 2, count r, offset v)
-  pub weak-template : Shape isWeakTemplate (λ tuple. three tuple (part 3 2 0))
-  pub weak-entry : Shape isWeakEntry (λ tuple. three tuple (part 3 0 (field tuple 2 .value)))
+  pub weak-template : Shape isWeakTemplate (λ tuple. three (field tuple 1 .value) (part 3 2 0))
+  pub weak-entry : Shape isWeakEntry (λ tuple. three (field tuple 1 .value) (part 3 0 (field tuple 2 .value)))
   -- policies 2 and 3: (word 2, count r, open offset, any seats) and (word 2, count r, offset v, seats P)
-  pub template : Shape isDecisionTemplate (λ tuple. four tuple (part 3 2 0) (part 4 1 0))
-  pub entry : Shape isDecision (λ tuple. four tuple (part 3 0 (field tuple 2 .value)) (part 4 0 (field tuple 3 .value)))
+  pub template : Shape isDecisionTemplate (λ tuple. four (field tuple 1 .value) (part 3 2 0) (part 4 1 0))
+  pub entry : Shape isDecision (λ tuple. decisionOf (field tuple 1 .value) (field tuple 2 .value) (field tuple 3 .value))

@@ -98,15 +98,19 @@ proposal-answers config round asked code in-round by may =
       may = may;
     })
 
-pub decision-held : (config : Config) (round code : ℕ) → round ≤ largestCount → decidable config code ≡ true
-    → isRoundDecision config round (decisionEntry round code 0) ≡ true
+pub decision-held : (config : Config) (round code set : ℕ) → round ≤ largestCount → decidable config code ≡ true → set ≤ largestOf processSet → within (config .n) set ≡ true
+    → isRoundDecision config round (decisionEntry round code set) ≡ true
 unfolding isEntry tupleFault fieldsFault restBlank restFrom placeBlank isBlank isDecision knownHead largestOf
-decision-held config round code in-round may =
-    held-rule config round (decisionEntry round code 0) .1
+decision-held config round code set in-round may small inside =
+    held-rule config round (decisionEntry round code set) .1
     (record {
-      entry = rw (given-sound word decision refl (omega arith), given-sound count round refl in-round, given-sound offset code refl (decidable-small config code may), given-sound processSet 0 refl (omega arith));
+      entry = rw (given-sound word decision refl (omega arith), given-sound count round refl in-round, given-sound offset code refl (decidable-small config code may), given-sound processSet set refl small);
       shape = refl;
       in-round = refl;
       may = may;
-      inside = within-rule (config .n) 0 .1 (λ k member. let nothing : 0 / 2 ^ (k - 1) ≡ 0 = zero-div (2 ^ (k - 1)) in absurd (omega (arith, rw nothing at (member .bit))));
+      inside = inside;
     })
+
+-- the empty set is in 1 to n
+pub within-none : (n : ℕ) → within n 0 ≡ true
+within-none n = within-rule n 0 .1 (λ k member. let nothing : 0 / 2 ^ (k - 1) ≡ 0 = zero-div (2 ^ (k - 1)) in absurd (omega (arith, rw nothing at (member .bit))))

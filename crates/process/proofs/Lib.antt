@@ -1,6 +1,7 @@
 pub mod AnswerLaws
 pub mod ChoiceLaws
 pub mod FitLaws
+pub mod FitRules
 mod FitSteps
 pub mod KeptLaws
 mod Lengths

@@ -38,7 +38,7 @@ no-test t rule e a = false≢true (sym e ∙ rule .1 a)
 
 -- ---- what starts
 
-may-start : (config : Config) → (startable config ≡ true) ↔ MayStart config
+pub may-start : (config : Config) → (startable config ≡ true) ↔ MayStart config
 may-start config =
     let rule = startable-rule config in (
       λ h. (sound-rule config .0 (rule .0 h .0), rule .0 h .1),
@@ -66,13 +66,13 @@ module _ (config : Config) (round : ℕ) (offset : Offset) (start : MayStart con
   numbered : MayPropose config round offset → offset ≡ Bottom → ⊥
   numbered may e = let n = may .number in let is : offset ≡ Hundredths (n .0) = n .1 in let z : _≡_ {A = ℕ} 0 1 = cc in omega arith
 
-  offers : MayPropose config round offset → offered config (codeOf offset) ≡ true
+  pub offers : MayPropose config round offset → offered config (codeOf offset) ≡ true
   offers may =
       cases (eqb (config .policy) 3)
       (λ e. let three = eqb-true (config .policy) 3 e in choice-rule config offset three (start .0 .choice three .1) .1 (may .choice three))
       (λ e. offered-rule config offset (eqb-false (config .policy) 3 e) .1 (ranged may, numbered may))
 
-  may-propose : (inRounds round && proposable config offset ≡ true) ↔ MayPropose config round offset
+  pub may-propose : (inRounds round && proposable config offset ≡ true) ↔ MayPropose config round offset
   may-propose = (proposed, λ may. rw (lt-ltb round 8 (omega (arith, may .early)), ranged may, offers may))
 
 -- ---- starting

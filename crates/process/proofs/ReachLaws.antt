@@ -17,11 +17,11 @@ use Rattle.process.specs.declared.process.Process.{Process}
 use Rattle.process.specs.Asks.{proposal, decisionEntry}
 use Rattle.process.specs.Fits.{fits}
 use Rattle.process.specs.Laws.{ReachableRule, NextRule}
-use Rattle.process.specs.Procedure.{readOn, advanced}
+use Rattle.process.specs.Procedure.{readOn}
 use Rattle.process.specs.Reachable.{Reachable, starts, resumes}
 use Rattle.process.specs.States.{noneFound, foundSound, phaseSound}
 use Rattle.process.specs.Tallies.{foundOf, backs, backing, settled, nextAfter}
-use Rattle.process.proofs.FitLaws.{proposal-answers, decision-held}
+use Rattle.process.proofs.FitLaws.{proposal-answers, decision-held, within-none}
 use Rattle.process.proofs.KeptLaws.{Kept, resumed-advanced, resumed-formed, started-begun, started-formed}
 use Rattle.process.proofs.NextLaws.{next-rules}
 use Rattle.process.proofs.StateLaws.{Startable, Same, Codes, Reads, Decides, startable-parts, formed-parts, none-at, none-found, code-noted, codes-set, put-back, reading-rule, deciding-rule, unsettled-few}
@@ -41,10 +41,8 @@ use Rattle.tuple.specs.Offsets.{bottom}
 
 reached-kept : {p : Process} → Reachable p → Kept p
 reached-kept (starts config process round offset calls) = started-formed config process round offset calls
-reached-kept (resumes process reply before fit) = let k = reached-kept before in resumed-formed process reply (k .1) (k .0) fit
-
-advance : {p : Process} (reply : Reply) → Reachable p → fits p reply ≡ true → Reachable (advanced p reply (p .phase) .process)
-advance {p} reply reached fit = rw (resumed-advanced p reply (reached-kept reached .0) fit) at (resumes p reply reached fit)
+reached-kept (resumes process reply before fit) =
+    let k = reached-kept before in rw (resumed-advanced process reply (k .0) fit) at (resumed-formed process reply (k .1) (k .0) fit)
 
 -- ---- one place of what is found
 
@@ -93,7 +91,7 @@ module _ (config : Config) (process round : ℕ) where
   -- a reading without an answer
   pass : {asked : ℕ} {found : List ℕ} → Reachable (state (Reading asked) found) → Reachable (state (Reading (nextAfter (config .n) found asked)) found)
   unfolding fits restBlank restFrom placeBlank isBlank
-  pass r = rw (reached r .reads .unsettled) at (advance (record { outcome = None; tuple = blankTuple }) r refl)
+  pass r = rw (reached r .reads .unsettled) at (resumes _ (record { outcome = None; tuple = blankTuple }) r refl)
 
   -- a reading with this answer
   find : {asked : ℕ} {found : List ℕ} (code : ℕ) → offered config code ≡ true → Reachable (state (Reading asked) found)
@@ -101,7 +99,7 @@ module _ (config : Config) (process round : ℕ) where
   unfolding fits
   find {asked} code may r =
       let at = reached r in
-      advance (record { outcome = Found; tuple = proposal round asked code }) r
+      resumes _ (record { outcome = Found; tuple = proposal round asked code }) r
       (proposal-answers config round asked code (omega (arith, at .in-rounds)) (omega (arith, at .reads .most, at .start .few)) may)
 
   -- ---- from one reading to each other, without an answer
@@ -179,7 +177,7 @@ module _ (config : Config) (process round : ℕ) where
 
     reach-first : Reachable (state (Reading 1) noneFound)
     unfolding fits restBlank restFrom placeBlank isBlank
-    reach-first = advance (record { outcome = Done; tuple = blankTuple }) reach-proposing refl
+    reach-first = resumes _ (record { outcome = Done; tuple = blankTuple }) reach-proposing refl
 
     reach-reading : (m : ℕ) (found : List ℕ) (asked : ℕ) → length found ≡ processes → backing bottom found < m → Reads config found asked
         → Reachable (state (Reading asked) found)
@@ -229,8 +227,8 @@ module _ (config : Config) (process round : ℕ) where
     reach-decided : (code : ℕ) → decidable config code ≡ true → Reachable (state (Decided code) noneFound)
     unfolding fits
     reach-decided code may =
-        advance (record { outcome = Held; tuple = decisionEntry round code 0 }) (ends (config .n + 1) (omega arith) reach-first .1)
-        (decision-held config round code (omega (arith, ltb-true round rounds (same .in-rounds))) may)
+        resumes _ (record { outcome = Held; tuple = decisionEntry round code 0 }) (ends (config .n + 1) (omega arith) reach-first .1)
+        (decision-held config round code 0 (omega (arith, ltb-true round rounds (same .in-rounds))) may (omega arith) (within-none (config .n)))
 
     reach : (phase : Phase) (found : List ℕ) → length found ≡ processes → phaseSound config found phase ≡ true → Reachable (state phase found)
     reach Proposing found typed sound = rw (none-found found typed (none-at config found sound)) reach-proposing

@@ -1,4 +1,5 @@
 pub mod Asks
+pub mod FitLaws
 pub mod Fits
 pub mod Laws
 pub mod Procedure

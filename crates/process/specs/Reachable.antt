@@ -5,7 +5,7 @@ use Prim.Native.Nat.{ℕ}
 use Rattle.process.specs.declared.process.Next.the-variants.{Calls}
 use Rattle.process.specs.declared.process.Process.{Process}
 use Rattle.process.specs.Fits.{fits}
-use Rattle.process.specs.Procedure.{started, resumed}
+use Rattle.process.specs.Procedure.{started, advanced}
 use Rattle.space.specs.declared.config.Config.{Config}
 use Rattle.tuple.specs.declared.offset.Offset.{Offset}
 use Rattle.tuple.specs.declared.reply.Reply.{Reply}
@@ -14,5 +14,5 @@ pub data Reachable : Process → Type 0 where
   -- a start that is not refused
   starts : (config : Config) (process round : ℕ) (offset : Offset) → started config process round offset .next ≡ Calls
       → Reachable (started config process round offset .process)
-  -- a reply that fits
-  resumes : (process : Process) (reply : Reply) → Reachable process → fits process reply ≡ true → Reachable (resumed process reply .process)
+  -- a reply that fits; the step asks nothing of the state that it goes on from
+  resumes : (process : Process) (reply : Reply) → Reachable process → fits process reply ≡ true → Reachable (advanced process reply (process .phase) .process)

@@ -72,12 +72,12 @@ proposalOf round process code =
     record {
       count = 4;
       fields = record { kind = 1; state = 0; value = 1 }
-        ∷ record { kind = 2; state = 0; value = round }
-        ∷ record { kind = 2; state = 0; value = process }
-        ∷ record { kind = 3; state = 0; value = code }
-        ∷ record { kind = 0; state = 0; value = 0 }
-        ∷ record { kind = 0; state = 0; value = 0 }
-        ∷ [];
+          ∷ record { kind = 2; state = 0; value = round }
+          ∷ record { kind = 2; state = 0; value = process }
+          ∷ record { kind = 3; state = 0; value = code }
+          ∷ record { kind = 0; state = 0; value = 0 }
+          ∷ record { kind = 0; state = 0; value = 0 }
+          ∷ [];
     }
 
 -- of a tuple of six places whose unused parts are zero: it is a proposal exactly when it is that of its second, third and fourth field

@@ -21,7 +21,6 @@ use Rattle.tuple.specs.declared.matching.Found.the-variants.{At, Nowhere}
 use Rattle.tuple.specs.declared.refusal.Refusal.{Refusal}
 use Rattle.tuple.specs.declared.reply.Outcome.{Outcome}
 use Rattle.tuple.specs.declared.reply.Outcome.the-variants.{Done, None, Found, Inserted, Held, Refused}
-use Rattle.tuple.specs.Bounds.{capacity}
 use Rattle.tuple.specs.Faults.{callFault}
 use Rattle.tuple.specs.Fields.{blankTuple}
 use Rattle.tuple.specs.Matching.{oldestOf}
@@ -29,8 +28,8 @@ use Rattle.tuple.specs.Refusals.{refusal}
 
 -- what becomes of the tuples, carried out: out and an inserted cas append the entry, inp takes a tuple off and the rest keeps its order
 pub record CarriedRule (config : Config) (tuples : List Tuple) (entry : Tuple) : Type 0 where
-  pub append : length tuples < capacity → carriedOut (spaceOf config tuples) entry Append ≡ spaceOf config (tuples ++ (entry ∷ []))
-  pub remove : (i : ℕ) → i < length tuples → length tuples ≤ capacity → carriedOut (spaceOf config tuples) entry (Remove i) ≡ spaceOf config (without i tuples)
+  pub append : length tuples < 128 → carriedOut (spaceOf config tuples) entry Append ≡ spaceOf config (tuples ++ (entry ∷ []))
+  pub remove : (i : ℕ) → i < length tuples → length tuples ≤ 128 → carriedOut (spaceOf config tuples) entry (Remove i) ≡ spaceOf config (without i tuples)
 
 abbrev pub CarriedRules : Type 0
 CarriedRules = (config : Config) (tuples : List Tuple) (entry : Tuple) → CarriedRule config tuples entry

@@ -22,9 +22,8 @@ use Rattle.tuple.specs.declared.field.Tuple.{Tuple}
 use Rattle.tuple.specs.declared.field.Call.{Call}
 use Rattle.tuple.specs.declared.reply.Outcome.the-variants.{Done, Inserted, Held, Refused}
 use Rattle.tuple.specs.declared.offset.Offset.the-variants.{Hundredths}
-use Rattle.tuple.specs.Bounds.{largestCount, largestCode}
 use Rattle.tuple.specs.Fields.{blankTuple}
-use Rattle.tuple.specs.Offsets.{bottom, codeOf}
+use Rattle.tuple.specs.Offsets.{codeOf}
 use Rattle.tuple.specs.Refusals.{refusal}
 
 -- ---- the list
@@ -47,7 +46,7 @@ pub record ListingRule (config : Config) (calls : List Call) : Type 0 where
       → serialOf (getD (held (last config calls)) i blankTuple) ≡ serialOf (getD (held (last config calls)) j blankTuple)
       → i ≡ j
   -- none has bottom for its shift
-  pub some : (tuple : Tuple) → List·Memᴰ tuple (held (last config calls)) → isListTuple tuple ≡ true → shiftCode tuple ≡ bottom → ⊥
+  pub some : (tuple : Tuple) → List·Memᴰ tuple (held (last config calls)) → isListTuple tuple ≡ true → shiftCode tuple ≡ 0 → ⊥
   -- each was inserted by a cas of its own process, or under policy 5 of another one, and then it is what its process had announced
   pub listed-by : (tuple : Tuple) → List·Memᴰ tuple (held (last config calls)) → isListTuple tuple ≡ true → ListedBy config calls tuple
 
@@ -84,10 +83,10 @@ NextListed =
     → length (listAfter config calls) < 112
     → 1 ≤ process
     → process ≤ config .n
-    → serial ≤ largestCount
+    → serial ≤ 4_294_967_295
     → (Listed (held (last config calls)) process serial → ⊥)
-    → (code ≡ bottom → ⊥)
-    → code ≤ largestCode
+    → (code ≡ 0 → ⊥)
+    → code ≤ 200_001
     → applied (last config calls) (listCas process (length (listAfter config calls) + 1) serial code) .reply .outcome ≡ Inserted
 
 -- a cas on a position that is taken: held, and the tuple there is read, if its process and serial are not listed; denied if they are
@@ -107,9 +106,9 @@ TakenRule =
     → position ≤ length (listAfter config calls)
     → 1 ≤ process
     → process ≤ config .n
-    → serial ≤ largestCount
-    → (code ≡ bottom → ⊥)
-    → code ≤ largestCode
+    → serial ≤ 4_294_967_295
+    → (code ≡ 0 → ⊥)
+    → code ≤ 200_001
     → Taken config calls process position serial code
 
 -- a space handed in may hold what no run makes, and that is listed and stands before as it is: where (position 1, process 1, serial 1, 40) and (position 3,
@@ -148,9 +147,9 @@ pub record NextDue (config : Config) (calls : List Call) (caller : ℕ) : Type 0
       (listFor caller (length (listAfter config calls) + 1) (preferred (config .n) (length (listAfter config calls) + 1)) serial code) .reply .outcome
       ≡ Inserted
   pub alone : (serial code : ℕ)
-      → serial ≤ largestCount
-      → (code ≡ bottom → ⊥)
-      → code ≤ largestCode
+      → serial ≤ 4_294_967_295
+      → (code ≡ 0 → ⊥)
+      → code ≤ 200_001
       → (Listed (held (last config calls)) caller serial → ⊥)
       → (Announcing (held (last config calls)) (preferred (config .n) (length (listAfter config calls) + 1)) → ⊥)
       ⊎ ((other : ℕ) × (shift : ℕ)
@@ -176,9 +175,9 @@ NextAnnounced =
     → config .policy ≡ 5
     → 1 ≤ process
     → process ≤ config .n
-    → serial ≤ largestCount
-    → (code ≡ bottom → ⊥)
-    → code ≤ largestCode
+    → serial ≤ 4_294_967_295
+    → (code ≡ 0 → ⊥)
+    → code ≤ 200_001
     → (Announcing (held (last config calls)) process → ⊥)
     → applied (last config calls) (announceOut process serial code) .reply .outcome ≡ Done
 
@@ -270,8 +269,8 @@ pub record Pick : Type 0 where
 -- one that can be made
 pub record Able (config : Config) (pick : Pick) : Type 0 where
   pub known : (1 ≤ pick .process) × (pick .process ≤ config .n)
-  pub some : pick .code ≡ bottom → ⊥
-  pub small : pick .code ≤ largestCode
+  pub some : pick .code ≡ 0 → ⊥
+  pub small : pick .code ≤ 200_001
 
 abbrev pub noPick : Pick
 noPick = record { process = 0; code = 0 }

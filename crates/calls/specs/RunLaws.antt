@@ -17,8 +17,7 @@ use Rattle.space.specs.Spaces.{held, freshOf}
 use Rattle.tuple.specs.declared.field.Tuple.{Tuple}
 use Rattle.tuple.specs.declared.field.Call.{Call}
 use Rattle.tuple.specs.declared.reply.Outcome.the-variants.{Done, Inserted, Refused}
-use Rattle.tuple.specs.Fields.{out, inp, cas, blankTuple}
-use Rattle.tuple.specs.Offsets.{bottom}
+use Rattle.tuple.specs.Fields.{blankTuple}
 use Rattle.tuple.specs.Refusals.{refusal}
 
 -- without the test of each place, calls from a fresh space make the same turns
@@ -44,7 +43,7 @@ NeverFull =
 
 -- the policy permits no inp: so it is under policies 1 to 4 (`InpRule`)
 abbrev pub NoInp : Config → Type 0
-NoInp config = (tuples : List Tuple) (call : Call) → call .code ≡ inp → verdictOn config tuples call ≡ Permit → ⊥
+NoInp config = (tuples : List Tuple) (call : Call) → call .code ≡ 3 → verdictOn config tuples call ≡ Permit → ⊥
 
 -- under such a policy nothing leaves: what is held stays, in its order
 abbrev pub NothingLeaves : Type 0
@@ -62,7 +61,7 @@ WeakOffsets =
     → sound config ≡ true
     → config .policy ≡ 1
     → List·Memᴰ tuple (held (last config calls))
-    → (isWeakEntry tuple ≡ true) × (decidedCode tuple ≡ bottom → ⊥)
+    → (isWeakEntry tuple ≡ true) × (decidedCode tuple ≡ 0 → ⊥)
 
 -- ---- what policies 2 and 3 make of every list of calls
 
@@ -70,7 +69,7 @@ WeakOffsets =
 pub record OwnOut (config : Config) (calls : List Call) (tuple : Tuple) : Type 0 where
   pub turn : Turn
   pub occurs : List·Memᴰ turn (turns config calls)
-  pub code : turn .call .code ≡ out
+  pub code : turn .call .code ≡ 1
   pub entry : turn .call .entry ≡ tuple
   pub own : turn .call .process ≡ processOf tuple
   pub done : turn .reply .outcome ≡ Done
@@ -81,7 +80,7 @@ pub record Borne (config : Config) (calls : List Call) (tuple : Tuple) : Type 0 
   pub call : Call
   pub behind : List Call
   pub split : calls ≡ before ++ (call ∷ behind)
-  pub code : call .code ≡ cas
+  pub code : call .code ≡ 4
   pub entry : call .entry ≡ tuple
   pub inserted : applied (last config before) call .reply .outcome ≡ Inserted
   pub permitted : verdictOn config (held (last config before)) call ≡ Permit

@@ -12,7 +12,6 @@ use Rattle.policy.specs.Policies.{verdictOn, verdict}
 use Rattle.policy.specs.Shapes.{isWeakTemplate, isWeakEntry, isDecisionTemplate, isDecision, decidedCode, setOf}
 use Rattle.space.specs.declared.config.Config.{Config}
 use Rattle.space.specs.declared.space.Space.{Space}
-use Rattle.space.specs.Bounds.{rounds}
 use Rattle.space.specs.Configs.{hasProposals, hasList}
 use Rattle.space.specs.Announcements.{isAnnouncement, announcerOf, Announcing, Oldest}
 use Rattle.space.specs.Lists.{isListTuple, positionOf, serialOf, shiftCode, Filled, Listed}
@@ -22,10 +21,7 @@ use Rattle.space.specs.Shapes.{roundOf, isProposal, processOf, proposedCode}
 use Rattle.space.specs.Spaces.{bounded}
 use Rattle.tuple.specs.declared.field.Tuple.{Tuple}
 use Rattle.tuple.specs.declared.field.Call.{Call}
-use Rattle.tuple.specs.Bounds.{places}
 use Rattle.tuple.specs.Faults.{restBlank}
-use Rattle.tuple.specs.Fields.{out, rdp, inp, cas}
-use Rattle.tuple.specs.Offsets.{bottom}
 use Rattle.tuple.specs.declared.refusal.Refusal.{Refusal}
 use Rattle.tuple.specs.Refusals.{refusal}
 use Rattle.tuple.specs.Shapes.{field}
@@ -60,12 +56,12 @@ BareRule = (config : Config) (tuples : List Tuple) (call : Call) → config .pol
 -- ---- policy 1: only cas, with the two shapes, on one round 0 to 7, and not of bottom
 
 pub record WeakCall (call : Call) : Type 0 where
-  pub code : call .code ≡ cas
+  pub code : call .code ≡ 4
   pub template : isWeakTemplate (call .template) ≡ true
   pub entry : isWeakEntry (call .entry) ≡ true
   pub same : roundOf (call .template) ≡ roundOf (call .entry)
-  pub in-rounds : roundOf (call .entry) < rounds
-  pub some : decidedCode (call .entry) ≡ bottom → ⊥
+  pub in-rounds : roundOf (call .entry) < 8
+  pub some : decidedCode (call .entry) ≡ 0 → ⊥
 
 abbrev pub WeakRule : Type 0
 WeakRule = (config : Config) (tuples : List Tuple) (call : Call) → config .policy ≡ 1 → (verdictOn config tuples call ≡ Permit) ↔ WeakCall call
@@ -75,7 +71,7 @@ WeakRule = (config : Config) (tuples : List Tuple) (call : Call) → config .pol
 -- out only of the caller's own proposal, of an offset that may be proposed, in a round 0 to 7, and no tuple of that round and process stands there
 pub record OwnProposal (config : Config) (tuples : List Tuple) (call : Call) : Type 0 where
   pub shape : isProposal (call .entry) ≡ true
-  pub in-rounds : roundOf (call .entry) < rounds
+  pub in-rounds : roundOf (call .entry) < 8
   pub own : processOf (call .entry) ≡ call .process
   pub may : offered config (proposedCode (call .entry)) ≡ true
   pub free : Placed tuples (roundOf (call .entry)) (call .process) → ⊥
@@ -84,12 +80,12 @@ abbrev pub OutRule : Type 0
 OutRule =
     (config : Config) (tuples : List Tuple) (call : Call)
     → hasProposals config ≡ true
-    → call .code ≡ out
+    → call .code ≡ 1
     → (verdictOn config tuples call ≡ Permit) ↔ OwnProposal config tuples call
 
 -- rdp is always permitted
 abbrev pub RdpRule : Type 0
-RdpRule = (config : Config) (tuples : List Tuple) (call : Call) → hasProposals config ≡ true → call .code ≡ rdp → verdictOn config tuples call ≡ Permit
+RdpRule = (config : Config) (tuples : List Tuple) (call : Call) → hasProposals config ≡ true → call .code ≡ 2 → verdictOn config tuples call ≡ Permit
 
 -- inp never, nor under policies 1 and 4
 abbrev pub InpRule : Type 0
@@ -97,7 +93,7 @@ InpRule =
     (config : Config) (tuples : List Tuple) (call : Call)
     → 1 ≤ config .policy
     → config .policy ≤ 4
-    → call .code ≡ inp
+    → call .code ≡ 3
     → verdictOn config tuples call ≡ Refuse (refusal 7)
 
 -- cas only with the two shapes, on one round 0 to 7, with all of the set in 1 to n, of what may be decided
@@ -105,7 +101,7 @@ pub record DecisionCall (config : Config) (call : Call) : Type 0 where
   pub template : isDecisionTemplate (call .template) ≡ true
   pub entry : isDecision (call .entry) ≡ true
   pub same : roundOf (call .template) ≡ roundOf (call .entry)
-  pub in-rounds : roundOf (call .entry) < rounds
+  pub in-rounds : roundOf (call .entry) < 8
   pub members : (k : ℕ) → Member k (setOf (call .entry)) → k ≤ config .n
   pub may : decidable config (decidedCode (call .entry)) ≡ true
 
@@ -118,8 +114,8 @@ abbrev pub CasOffsetRule : Type 0
 CasOffsetRule =
     (config : Config) (tuples : List Tuple) (call : Call)
     → hasProposals config ≡ true
-    → call .code ≡ cas
-    → (decidedCode (call .entry) ≡ bottom → ⊥)
+    → call .code ≡ 4
+    → (decidedCode (call .entry) ≡ 0 → ⊥)
     → (verdictOn config tuples call ≡ Permit) ↔ (DecisionCall config call × BearsOffset config tuples (call .entry))
 
 -- ---- policy 2 alone
@@ -134,8 +130,8 @@ abbrev pub CasBottomRule : Type 0
 CasBottomRule =
     (config : Config) (tuples : List Tuple) (call : Call)
     → config .policy ≡ 2
-    → call .code ≡ cas
-    → decidedCode (call .entry) ≡ bottom
+    → call .code ≡ 4
+    → decidedCode (call .entry) ≡ 0
     → (verdictOn config tuples call ≡ Permit) ↔ (DecisionCall config call × BearsBottom config tuples (call .entry))
 
 -- ---- policy 3 alone
@@ -145,8 +141,8 @@ abbrev pub CasChoiceRule : Type 0
 CasChoiceRule =
     (config : Config) (tuples : List Tuple) (call : Call)
     → config .policy ≡ 3
-    → call .code ≡ cas
-    → (decidedCode (call .entry) ≡ bottom) ⊎ (offered config (decidedCode (call .entry)) ≡ false)
+    → call .code ≡ 4
+    → (decidedCode (call .entry) ≡ 0) ⊎ (offered config (decidedCode (call .entry)) ≡ false)
     → verdictOn config tuples call ≡ Refuse (refusal 7)
 
 -- ---- policies 4 and 5
@@ -168,7 +164,7 @@ abbrev pub ListTemplateMade : Type 0
 ListTemplateMade =
     (template : Tuple)
     → restBlank template true ≡ true
-    → length (template .fields) ≡ places
+    → length (template .fields) ≡ 6
     → (isListTemplate template ≡ true) ↔ (template ≡ listTemplate (positionOf template))
 
 -- both shapes, on one position 1 to 112, of a shift other than bottom, whose process and serial are not listed, at any position with any shift; and the
@@ -179,13 +175,13 @@ pub record ListCall (tuples : List Tuple) (call : Call) : Type 0 where
   pub same : positionOf (call .template) ≡ positionOf (call .entry)
   pub first : 1 ≤ positionOf (call .entry)
   pub most : positionOf (call .entry) ≤ 112
-  pub some : shiftCode (call .entry) ≡ bottom → ⊥
+  pub some : shiftCode (call .entry) ≡ 0 → ⊥
   pub unlisted : Listed tuples (processOf (call .entry)) (serialOf (call .entry)) → ⊥
   pub follows : (positionOf (call .entry) ≡ 1) ⊎ Filled tuples (positionOf (call .entry) - 1)
 
 -- rdp is always permitted
 abbrev pub ListRdpRule : Type 0
-ListRdpRule = (config : Config) (tuples : List Tuple) (call : Call) → hasList config ≡ true → call .code ≡ rdp → verdictOn config tuples call ≡ Permit
+ListRdpRule = (config : Config) (tuples : List Tuple) (call : Call) → hasList config ≡ true → call .code ≡ 2 → verdictOn config tuples call ≡ Permit
 
 -- 7 covers all that is not
 abbrev pub ListDenied : Type 0
@@ -203,7 +199,7 @@ ListRule =
     (config : Config) (tuples : List Tuple) (call : Call)
     → config .policy ≡ 4
     → (verdictOn config tuples call ≡ Permit)
-    ↔ ((call .code ≡ rdp) ⊎ ((call .code ≡ cas) × ListCall tuples call × (processOf (call .entry) ≡ call .process)))
+    ↔ ((call .code ≡ 2) ⊎ ((call .code ≡ 4) × ListCall tuples call × (processOf (call .entry) ≡ call .process)))
 
 -- ---- policy 5 alone
 
@@ -225,7 +221,7 @@ abbrev pub AnnounceRule : Type 0
 AnnounceRule =
     (config : Config) (tuples : List Tuple) (call : Call)
     → config .policy ≡ 5
-    → call .code ≡ out
+    → call .code ≡ 1
     → (verdictOn config tuples call ≡ Permit) ↔ OwnAnnouncement tuples call
 
 -- inp only with a template of four fields: the word 4 and the caller's own number given, a count and an offset, each of state any or open (1 or 2)
@@ -240,7 +236,7 @@ abbrev pub TakeOffRule : Type 0
 TakeOffRule =
     (config : Config) (tuples : List Tuple) (call : Call)
     → config .policy ≡ 5
-    → call .code ≡ inp
+    → call .code ≡ 3
     → (verdictOn config tuples call ≡ Permit) ↔ TakesOff call
 
 -- a cas may list the process, serial and shift of the preferred process's oldest announcement, whoever calls
@@ -260,7 +256,7 @@ abbrev pub HelpRule : Type 0
 HelpRule =
     (config : Config) (tuples : List Tuple) (call : Call)
     → config .policy ≡ 5
-    → call .code ≡ cas
+    → call .code ≡ 4
     → (verdictOn config tuples call ≡ Permit) ↔ (ListCall tuples call × (Helps config tuples call ⊎ Alone config tuples call))
 
 -- and nothing else is permitted under policy 5
@@ -269,7 +265,7 @@ AnnouncingOnly =
     (config : Config) (tuples : List Tuple) (call : Call)
     → config .policy ≡ 5
     → verdictOn config tuples call ≡ Permit
-    → (call .code ≡ rdp) ⊎ ((call .code ≡ cas) ⊎ ((call .code ≡ out) ⊎ (call .code ≡ inp)))
+    → (call .code ≡ 2) ⊎ ((call .code ≡ 4) ⊎ ((call .code ≡ 1) ⊎ (call .code ≡ 3)))
 
 -- ---- why a call is not permitted
 
@@ -277,9 +273,9 @@ AnnouncingOnly =
 -- offset or bottom) stands already
 pub record SecondProposal (config : Config) (tuples : List Tuple) (call : Call) : Type 0 where
   pub policy : hasProposals config ≡ true
-  pub code : call .code ≡ out
+  pub code : call .code ≡ 1
   pub shape : isProposal (call .entry) ≡ true
-  pub in-rounds : roundOf (call .entry) < rounds
+  pub in-rounds : roundOf (call .entry) < 8
   pub own : processOf (call .entry) ≡ call .process
   pub may : offered config (proposedCode (call .entry)) ≡ true
   pub stands : Placed tuples (roundOf (call .entry)) (call .process)
@@ -292,10 +288,10 @@ SecondRule =
 -- 13: a cas of policy 2 or 3, right in both shapes and round, with its set in 1 to n and of what may be decided, whose set doesn't bear its offset
 pub record Unborne (config : Config) (tuples : List Tuple) (call : Call) : Type 0 where
   pub policy : hasProposals config ≡ true
-  pub code : call .code ≡ cas
+  pub code : call .code ≡ 4
   pub shaped : DecisionCall config call
-  pub offset : (decidedCode (call .entry) ≡ bottom → ⊥) → BearsOffset config tuples (call .entry) → ⊥
-  pub mark : decidedCode (call .entry) ≡ bottom → BearsBottom config tuples (call .entry) → ⊥
+  pub offset : (decidedCode (call .entry) ≡ 0 → ⊥) → BearsOffset config tuples (call .entry) → ⊥
+  pub mark : decidedCode (call .entry) ≡ 0 → BearsBottom config tuples (call .entry) → ⊥
 
 abbrev pub UnborneRule : Type 0
 UnborneRule =

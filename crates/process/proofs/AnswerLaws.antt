@@ -1,7 +1,8 @@
 -- The first reading, that a refused reply leaves the state as before, and that a decided state repeats its decision. From the definition of handing it a
 -- reply.
-use mathlib.Core.Path.{_≡_, refl}
-use mathlib.Core.Bool.{_||_, or-true, and-eq-true-iff}
+use mathlib.Core.Path.{_≡_, refl, ap, _∙_}
+use mathlib.Core.Bool.{true, _||_, or-true, and-eq-true-iff}
+use mathlib.Core.List.{List}
 use Prim.Native.Nat.{ℕ}
 use native.Mathlib.Omega.{arith}
 use borrow.Table.Steps.{cases}
@@ -9,9 +10,10 @@ use Rattle.process.specs.declared.process.Next.the-variants.{Refuses}
 use Rattle.process.specs.declared.process.Phase.{Phase}
 use Rattle.process.specs.declared.process.Phase.the-variants.{Proposing, Reading, Deciding, Decided}
 use Rattle.process.specs.declared.process.Process.{Process}
+use Rattle.process.specs.declared.process.Step.{Step}
 use Rattle.process.specs.Fits.{fits}
-use Rattle.process.specs.Laws.{ReadsFirst, Unmoved, Repeats}
-use Rattle.process.specs.Procedure.{noted, advanced, isDecided, resumed}
+use Rattle.process.specs.Laws.{ReadsFirst, ReadsOn, ReadRules, DecidesRules, Unmoved, Repeats}
+use Rattle.process.specs.Procedure.{noted, readOn, advanced, isDecided, resumed}
 use Rattle.process.specs.States.{foundSound, wellFormed}
 use Rattle.process.specs.Tallies.{settled}
 use Rattle.process.proofs.StateLaws.{formed-parts, none-at, none-found}
@@ -21,6 +23,35 @@ use Rattle.tuple.specs.declared.reply.Reply.{Reply}
 pub reads-first : ReadsFirst
 unfolding resumed
 reads-first process reply formed proposing fit = rw (formed, fit, or-true, proposing)
+
+-- ---- after a reading
+
+module _ (process : Process) (reply : Reply) (asked : ℕ) (formed : wellFormed process ≡ true) (reading : process .phase ≡ Reading asked) (fit : fits process reply ≡ true) where
+  reads-on : (found : List ℕ) → noted (process .found) asked (reply .tuple) (reply .outcome) ≡ found → ReadsOn process reply asked found
+  unfolding resumed
+  reads-on found e =
+      let goes : resumed process reply ≡ readOn process found asked = rw (formed, fit, or-true, reading, e) refl in
+      record {
+        casts = λ settles. ap (λ (s : Step). s .call) goes ∙ rw settles refl;
+        reads = λ goes-on. ap (λ (s : Step). s .call) goes ∙ rw goes-on refl;
+        notes = ap (λ (s : Step). s .process .found) goes ∙ cases (settled (process .config) found) (λ h. rw h refl) (λ h. rw h refl);
+      }
+
+pub read-rules : ReadRules
+read-rules process reply asked formed reading fit =
+    record {
+      none = λ e. reads-on process reply asked formed reading fit (process .found) (ap (noted (process .found) asked (reply .tuple)) e);
+      found = λ e. reads-on process reply asked formed reading fit _ (ap (noted (process .found) asked (reply .tuple)) e);
+    }
+
+-- ---- after its cas
+
+pub decides-rules : DecidesRules
+unfolding resumed
+decides-rules process reply formed deciding fit =
+    record { inserted = λ e. rw (formed, fit, or-true, deciding, e); held = λ e. rw (formed, fit, or-true, deciding, e) }
+
+-- ---- refusals
 
 -- what a reply that fits leads to is no refusal
 pub advances : (process : Process) (reply : Reply) (phase : Phase) (why : Refusal) → advanced process reply phase .next ≡ Refuses why → ⊥

@@ -6,18 +6,17 @@ use mathlib.Core.List.{List}
 use Prim.Native.Nat.{ℕ, _+_, _-_, _*_, _≤_, _<_}
 use lib.Count.{ones}
 use lib.IntN.{ℤ, pos, natAbs}
-use lib.ListN.{length}
+use lib.ListN.{length, set}
 use Rattle.process.specs.declared.process.Next.the-variants.{Decides, Refuses}
-use Rattle.process.specs.declared.process.Phase.the-variants.{Proposing, Decided}
+use Rattle.process.specs.declared.process.Phase.the-variants.{Proposing, Reading, Deciding, Decided}
 use Rattle.process.specs.declared.process.Process.{Process}
-use Rattle.process.specs.Asks.{rdpCall}
+use Rattle.process.specs.Asks.{rdpCall, casCall}
 use Rattle.process.specs.Fits.{fits}
 use Rattle.process.specs.Procedure.{begun, started, resumed}
 use Rattle.process.specs.Reachable.{Reachable}
 use Rattle.process.specs.States.{startable, foundSound, wellFormed}
 use Rattle.process.specs.Tallies.{foundOf, backs, backing, backingSet, backed, settled, total, nextAfter}
 use Rattle.space.specs.declared.config.Config.{Config}
-use Rattle.space.specs.Bounds.{processes}
 use Rattle.space.specs.Configs.{sound}
 use Rattle.space.specs.Laws.{Sound}
 use Rattle.space.specs.Members.{Member}
@@ -26,17 +25,18 @@ use Rattle.space.specs.Shapes.{proposedCode}
 use Rattle.tuple.specs.declared.offset.Offset.{Offset}
 use Rattle.tuple.specs.declared.offset.Offset.the-variants.{Hundredths}
 use Rattle.tuple.specs.declared.refusal.Refusal.{Refusal}
-use Rattle.tuple.specs.declared.reply.Outcome.the-variants.{Found, Held}
+use Rattle.tuple.specs.declared.reply.Outcome.the-variants.{None, Found, Inserted, Held}
 use Rattle.tuple.specs.declared.reply.Reply.{Reply}
 use Rattle.tuple.specs.Fields.{blankCall}
-use Rattle.tuple.specs.Offsets.{bottom, codeOf, offsetOf}
+use Rattle.tuple.specs.Offsets.{codeOf, offsetOf}
 use Rattle.tuple.specs.Refusals.{refusal}
+use Rattle.tuple.specs.Shapes.{field}
 
 -- ---- states
 
 -- a state is well formed exactly if the procedure can reach it by fitting replies; its type says that it has a place for each process
 abbrev pub ReachableRule : Type 0
-ReachableRule = (process : Process) → length (process .found) ≡ processes → (wellFormed process ≡ true) ↔ Reachable process
+ReachableRule = (process : Process) → length (process .found) ≡ 15 → (wellFormed process ≡ true) ↔ Reachable process
 
 -- under policy 3 one that has decided has a choice, and never bottom
 abbrev pub ChoiceDecided : Type 0
@@ -105,6 +105,40 @@ ReadsFirst =
     → fits process reply ≡ true
     → resumed process reply .call ≡ rdpCall (process .process) (process .round) 1
 
+-- after a reading none leaves what is found, and found notes the offset in the fourth field of the tuple for the process asked. Then, if what is found
+-- ends the reading, it calls cas with the value and all found processes that back it, and else reads on behind the one asked
+pub record ReadsOn (process : Process) (reply : Reply) (asked : ℕ) (found : List ℕ) : Type 0 where
+  pub casts : settled (process .config) found ≡ true
+      → resumed process reply .call ≡ casCall (process .process) (process .round) (backed (process .config .t) found) (backingSet (backed (process .config .t) found) found)
+  pub reads : settled (process .config) found ≡ false
+      → resumed process reply .call ≡ rdpCall (process .process) (process .round) (nextAfter (process .config .n) found asked)
+  pub notes : resumed process reply .process .found ≡ found
+
+pub record ReadRule (process : Process) (reply : Reply) (asked : ℕ) : Type 0 where
+  pub none : reply .outcome ≡ None → ReadsOn process reply asked (process .found)
+  pub found : reply .outcome ≡ Found → ReadsOn process reply asked (set (process .found) (asked - 1) (field (reply .tuple) 3 .value))
+
+abbrev pub ReadRules : Type 0
+ReadRules =
+    (process : Process) (reply : Reply) (asked : ℕ)
+    → wellFormed process ≡ true
+    → process .phase ≡ Reading asked
+    → fits process reply ≡ true
+    → ReadRule process reply asked
+
+-- after its cas, inserted gives the value of that cas, and held the offset in the third field of the held tuple
+pub record DecidesRule (process : Process) (reply : Reply) : Type 0 where
+  pub inserted : reply .outcome ≡ Inserted → resumed process reply .next ≡ Decides (offsetOf (backed (process .config .t) (process .found)))
+  pub held : reply .outcome ≡ Held → resumed process reply .next ≡ Decides (offsetOf (field (reply .tuple) 2 .value))
+
+abbrev pub DecidesRules : Type 0
+DecidesRules =
+    (process : Process) (reply : Reply)
+    → wellFormed process ≡ true
+    → process .phase ≡ Deciding
+    → fits process reply ≡ true
+    → DecidesRule process reply
+
 -- refused, it leaves the state as before
 abbrev pub Unmoved : Type 0
 Unmoved = (process : Process) (reply : Reply) (why : Refusal) → resumed process reply .next ≡ Refuses why → resumed process reply .process ≡ process
@@ -113,7 +147,7 @@ Unmoved = (process : Process) (reply : Reply) (why : Refusal) → resumed proces
 abbrev pub Repeats : Type 0
 Repeats =
     (process : Process) (reply : Reply) (code : ℕ)
-    → length (process .found) ≡ processes
+    → length (process .found) ≡ 15
     → wellFormed process ≡ true
     → process .phase ≡ Decided code
     → resumed process reply ≡ record { next = Decides (offsetOf code); process = process; call = blankCall }
@@ -125,11 +159,11 @@ abbrev pub SettledRule : Type 0
 SettledRule =
     (config : Config) (found : List ℕ)
     → (settled config found ≡ true)
-    ↔ (((w : ℕ) × (w ≡ bottom → ⊥) × (config .t + 1 ≤ backing w found)) ⊎ (config .n - config .t ≤ backing bottom found))
+    ↔ (((w : ℕ) × (w ≡ 0 → ⊥) × (config .t + 1 ≤ backing w found)) ⊎ (config .n - config .t ≤ backing 0 found))
 
 -- n - t found processes end the reading
 abbrev pub ReadingEnds : Type 0
-ReadingEnds = (config : Config) (found : List ℕ) → config .n - config .t ≤ backing bottom found → settled config found ≡ true
+ReadingEnds = (config : Config) (found : List ℕ) → config .n - config .t ≤ backing 0 found → settled config found ≡ true
 
 -- why policy 3 needs n to be at least (k + 1)t + 1: of k choices that n - t have made, one has more than t
 abbrev pub Pigeonhole : Type 0
@@ -150,8 +184,8 @@ ChoiceReadsRule =
 
 -- the value is an offset that t + 1 found processes have proposed, or bottom if there is none
 pub record BackedRule (t : ℕ) (found : List ℕ) : Type 0 where
-  pub some : (backed t found ≡ bottom → ⊥) → t + 1 ≤ backing (backed t found) found
-  pub none : backed t found ≡ bottom → (w : ℕ) → (w ≡ bottom → ⊥) → backing w found ≤ t
+  pub some : (backed t found ≡ 0 → ⊥) → t + 1 ≤ backing (backed t found) found
+  pub none : backed t found ≡ 0 → (w : ℕ) → (w ≡ 0 → ⊥) → backing w found ≤ t
 
 abbrev pub BackedRules : Type 0
 BackedRules = (t : ℕ) (found : List ℕ) → BackedRule t found

@@ -21,7 +21,6 @@ use Rattle.space.specs.Spaces.{wellFormed, Typed, Tidy}
 use Rattle.tuple.specs.declared.field.Tuple.{Tuple}
 use Rattle.tuple.specs.declared.offset.Offset.{Offset}
 use Rattle.tuple.specs.declared.offset.Offset.the-variants.{Bottom, Hundredths}
-use Rattle.tuple.specs.Bounds.{places, capacity}
 use Rattle.tuple.specs.Faults.{isEntry, restBlank}
 use Rattle.tuple.specs.Fields.{blankTuple}
 use Rattle.tuple.specs.Offsets.{inRange, codeOf}
@@ -148,7 +147,7 @@ abbrev pub ListTupleMade : Type 0
 ListTupleMade =
     (tuple : Tuple)
     → isEntry tuple ≡ true
-    → length (tuple .fields) ≡ places
+    → length (tuple .fields) ≡ 6
     → (isListTuple tuple ≡ true) ↔ (tuple ≡ listTuple (positionOf tuple) (processOf tuple) (serialOf tuple) (shiftCode tuple))
 
 -- a position is filled exactly when such a tuple stands
@@ -189,9 +188,9 @@ AnnouncedRules = (tuples : List Tuple) (process : ℕ) → AnnouncedRule tuples 
 -- a sound configuration, at most 128 tuples, an entry at each used place, and a blank tuple at each other
 pub record Formed (space : Space) : Type 0 where
   pub config : sound (space .config) ≡ true
-  pub few : space .count ≤ capacity
+  pub few : space .count ≤ 128
   pub used : (i : ℕ) → i < space .count → isEntry (getD (space .tuples) i blankTuple) ≡ true
-  pub unused : (i : ℕ) → space .count ≤ i → i < capacity → getD (space .tuples) i blankTuple ≡ blankTuple
+  pub unused : (i : ℕ) → space .count ≤ i → i < 128 → getD (space .tuples) i blankTuple ≡ blankTuple
 
 abbrev pub WellFormedRule : Type 0
 WellFormedRule = (space : Space) → Typed space → (wellFormed space ≡ true) ↔ Formed space

@@ -18,7 +18,7 @@ use Rattle.tuple.specs.declared.offset.Coded.the-variants.{Code, OutOfRa
 use Rattle.tuple.specs.declared.offset.Decoded.the-variants.{Means, NoOffset}
 use Rattle.tuple.specs.Bounds.{largestOffset, largestCode}
 use Rattle.tuple.specs.Offsets.{inRange, codeOf, offsetOf, codedOf, decodedOf}
-use Rattle.tuple.specs.Laws.{OneToOne}
+use Rattle.tuple.specs.Laws.{OneToOne, CodedRule}
 
 -- ---- the offset that a number stands for
 
@@ -78,6 +78,19 @@ one-to-one =
       forth = code-offset;
       signed = code-neg;
       apart = code-apart;
+    }
+
+pub coded-rule : CodedRule
+unfolding codedOf decodedOf
+coded-rule =
+    record {
+      mark = refl;
+      from-zero = λ z h. rw (le-leb z 100_000 h);
+      below-zero = λ k h. rw (le-leb (suc k) 100_000 (omega arith));
+      too-high = λ z h. rw (lt-leb z 100_000 h);
+      too-low = λ k h. rw (lt-leb (suc k) 100_000 (omega arith));
+      means = λ code h. (offsetOf code, rw (le-leb code 200_001 h), rw (one-to-one .decoded code h, code-offset code));
+      meaningless = λ code h. rw (lt-leb code 200_001 h);
     }
 
 -- an `i32` that was written and is read back

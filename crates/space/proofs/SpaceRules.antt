@@ -2,10 +2,11 @@
 use mathlib.Core.Path.{_≡_, refl, sym, ap₂}
 use Prim.Native.Nat.{ℕ, zero, suc, _-_, _≤_, _<_}
 use native.Mathlib.Omega.{arith}
-use mathlib.Core.Bool.{true, false, and-eq-true-iff}
+use mathlib.Core.Bool.{true, false, _&&_, and-eq-true-iff}
 use mathlib.Core.List.{List, [], _∷_, _++_, List·Memᴰ, List·Memᴰ·head, List·Memᴰ·tail, List·Memᴰ·not-nil, List·Memᴰ·cases-cons, Memᴰ·append-left, Memᴰ·append-right}
 use mathlib.Core.Logic.{⊎-elim}
 use lib.ListN.{length, take, drop, getD, replicate, length-take, length-drop, take-append-drop}
+use lib.Dec.{leb}
 use lib.Seq.{take-append-seam}
 use borrow.Author.Tests.{leb-true, le-leb}
 use Rattle.space.specs.declared.config.Config.{Config}
@@ -92,7 +93,8 @@ held-of config tuples = take-append-seam tuples (replicate (capacity - length tu
 pub formed-of : (config : Config) (tuples : List Tuple) → sound config ≡ true → Lawful tuples → wellFormed (spaceOf config tuples) ≡ true
 unfolding wellFormed bounded
 formed-of config tuples s lawful =
-    rw (s, le-leb (length tuples) capacity (lawful .few)) (places-sound (capacity - length tuples) tuples (lawful .entries))
+    let within : sound config && leb (length tuples) 128 ≡ true = and-eq-true-iff _ _ .1 (s, le-leb (length tuples) 128 (lawful .few)) in
+    and-eq-true-iff _ _ .1 (within, places-sound (capacity - length tuples) tuples (lawful .entries))
 
 module _ (space : Space) (formed : wellFormed space ≡ true) where
   tests : (sound (space .config) ≡ true) × (space .count ≤ capacity) × (placesFrom (space .count) (space .tuples) ≡ true)

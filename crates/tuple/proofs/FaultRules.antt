@@ -3,9 +3,9 @@
 use mathlib.Core.Path.{_≡_, refl, sym, ap, subst, _∙_}
 use Prim.Native.Nat.{ℕ, zero, suc, _≤_, _<_}
 use native.Mathlib.Omega.{arith}
-use mathlib.Core.Bool.{Bool, true, false, false≢true, _&&_, and-eq-true-iff}
+use mathlib.Core.Bool.{Bool, true, false, false≢true, _&&_, _||_, and-eq-true-iff}
 use mathlib.Core.List.{List, [], _∷_}
-use mathlib.Core.Logic.{_↔_}
+use mathlib.Core.Logic.{_↔_, _⊎_, inl, inr, ⊎-elim}
 use lib.ListN.{length, take, getD}
 use lib.Dec.{leb, ltb, eqb}
 use borrow.Author.Tests.{le-leb, lt-ltb, leb-true, ltb-true, ltb-false, eqb-true, eqb-false, eq-eqb}
@@ -289,10 +289,14 @@ template-rule : (call : Call) → (usesTemplate (call .code) ≡ true) ↔ HasTe
 unfolding usesTemplate
 template-rule call = (between 2 (call .code) 4, λ h. rw (le-leb 2 (call .code) (h .0), le-leb (call .code) 4 (h .1)))
 
+either : (a b : Bool) → a || b ≡ true → (a ≡ true) ⊎ (b ≡ true)
+either true b h = inl refl
+either false b h = inr h
+
 entry-rule : (call : Call) → (usesEntry (call .code) ≡ true) ↔ HasEntry call
 unfolding usesEntry
 entry-rule call = (
-  λ h. cases (eqb (call .code) out) (λ e. of-out (eqb-true _ _ e)) (λ e. of-cas (eqb-true _ _ (rw e at h))),
+  λ h. ⊎-elim (λ e. of-out (eqb-true (call .code) 1 e)) (λ e. of-cas (eqb-true (call .code) 4 e)) (either _ _ h),
   elim [ of-out e ↦ rw (eq-eqb (call .code) out e) | of-cas e ↦ rw e ],
 )
 

@@ -28,7 +28,7 @@ use Rattle.space.specs.Members.{within}
 use Rattle.space.specs.Proposals.{offered, decidable, proposed, everyProposed, crowded, Placed}
 use Rattle.space.specs.Shapes.{isProposal, roundOf, inRounds, processOf, proposedCode}
 use Rattle.space.proofs.CodeLaws.{offered-some}
-use Rattle.space.proofs.ConfigLaws.{proposals-rule, proposals-some, proposals-deciding, has-list-rule}
+use Rattle.space.proofs.ConfigLaws.{proposals-rule, has-list-rule}
 use Rattle.space.proofs.MemberLaws.{within-rule, every-member}
 use Rattle.space.proofs.ProposalLaws.{offered-alone, proposed-rules, crowded-rule, backers-rule}
 use Rattle.space.proofs.ShapeLaws.{four}
@@ -52,6 +52,19 @@ pub bounded-rule : BoundedRule
 unfolding verdict
 bounded-rule space call out-of = rw out-of
 
+module _ (config : Config) (tuples : List Tuple) (call : Call) where
+  pub under-weak : config .policy ≡ 1 → verdictOn config tuples call ≡ weak call
+  unfolding verdictOn
+  under-weak one = rw one
+
+  pub under-justified : hasProposals config ≡ true → verdictOn config tuples call ≡ justified config tuples call
+  unfolding verdictOn hasProposals
+  under-justified rests = ⊎-elim (λ (two : config .policy ≡ 2). rw two refl) (λ (three : config .policy ≡ 3). rw three refl) (proposals-rule config .0 rests)
+
+  pub under-shared : hasList config ≡ true → verdictOn config tuples call ≡ shared config tuples call
+  unfolding verdictOn hasProposals hasList
+  under-shared lists = ⊎-elim (λ (four : config .policy ≡ 4). rw four refl) (λ (five : config .policy ≡ 5). rw five refl) (has-list-rule config .0 lists)
+
 pub unknown-rule : UnknownRule
 unfolding verdictOn hasProposals hasList
 unknown-rule config tuples call above =
@@ -67,25 +80,6 @@ unknown-rule config tuples call above =
 pub bare-rule : BareRule
 unfolding verdictOn
 bare-rule config tuples call none = rw none
-
-module _ (config : Config) (tuples : List Tuple) (call : Call) where
-  pub under-weak : config .policy ≡ 1 → verdictOn config tuples call ≡ weak call
-  unfolding verdictOn
-  under-weak one = rw one
-
-  pub under-justified : hasProposals config ≡ true → verdictOn config tuples call ≡ justified config tuples call
-  unfolding verdictOn
-  under-justified rests =
-      let two = proposals-some config rests in
-      rw (ne-eqb (config .policy) 0 (λ e. omega arith), ne-eqb (config .policy) 1 (λ e. omega arith), rests)
-
-  pub under-shared : hasList config ≡ true → verdictOn config tuples call ≡ shared config tuples call
-  unfolding verdictOn
-  under-shared lists =
-      let number = has-list-rule config .0 lists in
-      let late : 4 ≤ config .policy = ⊎-elim (λ four. omega arith) (λ five. omega arith) number in
-      let other : hasProposals config ≡ false = cases (hasProposals config) (λ e. absurd (omega (arith, proposals-deciding config e))) (λ e. e) in
-      rw (ne-eqb (config .policy) 0 (λ e. omega arith), ne-eqb (config .policy) 1 (λ e. omega arith), other, lists)
 
 -- ---- policy 1
 

@@ -49,7 +49,7 @@ read-rules process reply asked formed reading fit =
 pub decides-rules : DecidesRules
 unfolding resumed
 decides-rules process reply formed deciding fit =
-    record { inserted = λ e. rw (formed, fit, or-true, deciding, e); held = λ e. rw (formed, fit, or-true, deciding, e) }
+    record { inserted = λ e. rw (formed, fit, or-true, deciding, e) refl; held = λ e. rw (formed, fit, or-true, deciding, e) refl }
 
 -- ---- refusals
 
@@ -77,4 +77,4 @@ unfolding resumed
 repeats process reply code typed formed decided =
     let sound = rw decided at (formed-parts process .0 formed .1) in
     let none = none-found (process .found) typed (none-at (process .config) (process .found) (and-eq-true-iff (foundSound (process .config) 0 (process .found)) _ .0 sound .0)) in
-    rw (formed, decided, none)
+    rw (formed, decided, none) refl

@@ -6,4 +6,5 @@ pub mod NumberLaws
 pub mod OnlyForm
 pub mod ReadBack
 pub mod Steps
+pub mod WriteRules
 pub mod WrittenLaws

@@ -17,9 +17,9 @@ use Rattle.record.specs.declared.reader.ReadField.{ReadField}
 use Rattle.record.specs.declared.reader.ReadTuple.{ReadTuple}
 use Rattle.record.specs.declared.reader.ReadCall.{ReadCall}
 use Rattle.record.specs.Heads.{headOf}
-use Rattle.record.specs.Reading.{onward, noField, noFields, noTuple, noCall, numberStep, readNumber, valueAt, headStep, fieldAt, ReadFields, fieldsAt, tupleAt, partAt, partsAt, bodyAt, callAt}
+use Rattle.record.specs.Reading.{onward, noField, noFields, noTuple, noCall, numberStep, readNumber, valueAt, headStep, fieldAt, ReadFields, fieldsAt, tupleAt, partAt, partsAt, isCode, bodyAt, callAt}
 use Rattle.record.specs.Writing.{fieldBytes, fieldsBytes, tupleBytes, partBytes, callBytes}
-use Rattle.record.specs.Laws.{Read, OnlyForm}
+use Rattle.record.specs.Laws.{Read, OnlyForm, OnlyOne}
 use Rattle.record.proofs.HeadLaws.{Says, head-says}
 use Rattle.varint.proofs.ReadingLaws.{picked}
 use Rattle.tuple.proofs.NoFault.{between, SoundPart}
@@ -130,6 +130,11 @@ tuple-read {count = count} {fields = fields} e number read =
       six = simp (length-append, length-replicate, read .counted) (omega arith);
       sound = record { fault = rw (e, front, read .sound); rest = read .blank (places - count) };
     }
+
+-- a code that the reader takes is 1 to 4
+code-known : (code : ℕ) → isCode code ≡ true → leb 1 code && leb code 4 ≡ true
+unfolding isCode
+code-known code e = e
 
 -- a process, a code and the parts that the code has are a call
 call-read : {call : Call} {s : List ℕ} {at at₁ at₂ at₃ next : ℕ} → leb out (call .code) && leb (call .code) cas ≡ true
@@ -247,11 +252,31 @@ module _ (s : List ℕ) (bytes : Bytes s) where
       reads-onward (CallForm s at) (process .next) noCall (number-form at)
       (λ at₁ first. let code = readNumber s at₁ in
       reads-onward (CallForm s at) (code .next) noCall (number-form at₁)
-      (λ at₂ second. picked (CallForm s at) (leb out (code .value) && leb (code .value) cas)
-      (λ e. parts-form e first second)
+      (λ at₂ second. picked (CallForm s at) (isCode (code .value))
+      (λ e. parts-form (code-known (code .value) e) first second)
       (λ e. tt))
       (λ refusal. tt))
       (λ refusal. tt)
 
 pub only-form : OnlyForm
 only-form s at next call bytes e = subst (CallForm s at) e (call-form s bytes at)
+
+-- ---- the only one
+
+-- what was read is what is written for the call
+read-taken : {s : List ℕ} {at next : ℕ} {call : Call} → Read s at next call → (next - at ≡ length (callBytes call)) × (take (next - at) (drop at s) ≡ callBytes call)
+read-taken {s} {at} {next} {call} read =
+    let long : next - at ≡ length (callBytes call) = omega (arith, read .taken) in
+    (long, ap (take (next - at)) (read .bytes) ∙ take-at (callBytes call) (drop next s) (next - at) (sym long))
+
+pub only-one : OnlyOne
+only-one call s at next s′ at′ next′ bytes bytes′ e e′ =
+    let read = only-form s at next call bytes e in
+    let read′ = only-form s′ at′ next′ call bytes′ e′ in
+    let one = read-taken read in
+    let other = read-taken read′ in
+    record {
+      onward = (omega (arith, read .taken), omega (arith, read′ .taken));
+      as-many = one .0 ∙ sym (other .0);
+      bytes = one .1 ∙ sym (other .1);
+    }

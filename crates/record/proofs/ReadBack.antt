@@ -15,7 +15,7 @@ use Rattle.record.specs.declared.reader.ReadCall.{ReadCall}
 use Rattle.record.specs.declared.writer.Recorded.{Recorded}
 use Rattle.record.specs.declared.writer.Recorded.the-variants.{Length, Unwritten}
 use Rattle.record.specs.Heads.{headNumber}
-use Rattle.record.specs.Reading.{place, numberStep, readNumber, valueAt, headStep, fieldAt, fieldsAt, tupleAt, partAt, partsAt, bodyAt, callAt}
+use Rattle.record.specs.Reading.{place, numberStep, readNumber, valueAt, headStep, fieldAt, fieldsAt, tupleAt, partAt, partsAt, isCode, bodyAt, callAt}
 use Rattle.record.specs.Writing.{fieldBytes, fieldsBytes, tupleBytes, partBytes, callBytes, roomStep, writtenOf, leftOf}
 use Rattle.record.specs.Laws.{ReadBack, WrittenBack}
 use Rattle.record.proofs.HeadLaws.{head-of}
@@ -120,6 +120,16 @@ unfolding partFault restBlank partAt partBytes
 part-back true entry tuple six sound s rest at e = tuple-back entry tuple six (sound .fault) (sound .rest) s rest at e
 part-back false entry tuple six sound s rest at e = λ i. record { next = place (sym (add-zero at) i); tuple = blank-tuple tuple six (sound .rest) i }
 
+-- the reader takes each code from 1 to 4
+code-taken : (code : ℕ) → 1 ≤ code → code ≤ 4 → isCode code ≡ true
+unfolding isCode
+code-taken zero low high = absurd (omega arith)
+code-taken (suc zero) low high = refl
+code-taken (suc (suc zero)) low high = refl
+code-taken (suc (suc (suc zero))) low high = refl
+code-taken (suc (suc (suc (suc zero)))) low high = refl
+code-taken (suc (suc (suc (suc (suc code))))) low high = absurd (omega arith)
+
 pub read-back : ReadBack
 unfolding callAt bodyAt partsAt callBytes
 read-back call s rest at typed h e =
@@ -134,8 +144,7 @@ read-back call s rest at typed h e =
     rw (
       number-back s _ at (call .process) (typed .process) (stands .0),
       number-back s _ (at + length process) (call .code) (omega arith) (behind .0),
-      le-leb out (call .code) (sound .low),
-      le-leb (call .code) cas (sound .high),
+      code-taken (call .code) (sound .low) (sound .high),
       part-back (usesTemplate (call .code)) false (call .template) (typed .template) (sound .template) s _ (at + length process + length code) (last .0),
       part-back (usesEntry (call .code)) true (call .entry) (typed .entry) (sound .entry) s rest (at + length process + length code + length template) (last .1),
     )

@@ -1,14 +1,18 @@
 -- The laws of records, as claims over the definitions.
 use mathlib.Core.Path.{_≡_}
-use Prim.Native.Nat.{ℕ, _+_, _≤_}
+use mathlib.Core.Logic.{_↔_}
+use Prim.Native.Nat.{ℕ, _+_, _-_, _≤_, _<_}
 use mathlib.Core.List.{List, _++_}
-use lib.ListN.{length, drop}
-use Rattle.record.specs.declared.writer.Recorded.the-variants.{Length}
+use lib.ListN.{length, take, drop}
+use Rattle.record.specs.declared.writer.Recorded.{Recorded}
+use Rattle.record.specs.declared.writer.Recorded.the-variants.{Length, Unwritten}
 use Rattle.record.specs.Reading.{place, callAt}
 use Rattle.record.specs.Writing.{callBytes, writtenOf, leftOf, longest, Typed}
-use Rattle.tuple.specs.declared.fault.Fault.the-variants.{Absent}
+use Rattle.tuple.specs.declared.fault.Fault.the-variants.{Absent, Present}
 use Rattle.tuple.specs.declared.field.Call.{Call}
+use Rattle.tuple.specs.declared.refusal.Refusal.{Refusal}
 use Rattle.tuple.specs.Faults.{callFault}
+use Rattle.tuple.specs.Refusals.{numberOf}
 use Rattle.varint.specs.Reading.{Bytes}
 
 -- a call without fault, written, reads back to that call and that length, wherever it stands and whatever follows
@@ -37,6 +41,35 @@ pub record Read (s : List ℕ) (at next : ℕ) (call : Call) : Type 0 where
 
 abbrev pub OnlyForm : Type 0
 OnlyForm = (s : List ℕ) (at next : ℕ) (call : Call) → Bytes s → callAt s at ≡ record { next = place next; call = call } → Read s at next call
+
+-- two byte strings that read as one and the same call, each from a place of its own, are equal in what was read
+pub record SameBytes (s : List ℕ) (at next : ℕ) (s′ : List ℕ) (at′ next′ : ℕ) : Type 0 where
+  pub onward : (at ≤ next) × (at′ ≤ next′)
+  pub as-many : next - at ≡ next′ - at′
+  pub bytes : take (next - at) (drop at s) ≡ take (next′ - at′) (drop at′ s′)
+
+abbrev pub OnlyOne : Type 0
+OnlyOne =
+    (call : Call) (s : List ℕ) (at next : ℕ) (s′ : List ℕ) (at′ next′ : ℕ)
+    → Bytes s
+    → Bytes s′
+    → callAt s at ≡ record { next = place next; call = call }
+    → callAt s′ at′ ≡ record { next = place next′; call = call }
+    → SameBytes s at next s′ at′ next′
+
+-- 01's number of what the writer answers, 0 for a length
+abbrev pub writtenRefusal : Recorded → ℕ
+writtenRefusal (Length n) = 0
+writtenRefusal (Unwritten why) = numberOf why
+
+-- writing: the call's own fault, 3 to 5, whatever the buffer; then 10, exactly when the buffer is shorter than the record; a refusal leaves every byte
+pub record WriteRule (call : Call) (buffer : List ℕ) : Type 0 where
+  pub fault : (why : Refusal) → callFault call ≡ Present why → (writtenOf call (length buffer) ≡ Unwritten why) × (3 ≤ numberOf why) × (numberOf why ≤ 5)
+  pub no-room : (writtenRefusal (writtenOf call (length buffer)) ≡ 10) ↔ ((callFault call ≡ Absent) × (length buffer < length (callBytes call)))
+  pub kept : (writtenRefusal (writtenOf call (length buffer)) ≡ 0 → ⊥) → leftOf call buffer ≡ buffer
+
+abbrev pub WriteRules : Type 0
+WriteRules = (call : Call) (buffer : List ℕ) → Typed call → WriteRule call buffer
 
 -- a record has at most 80 bytes
 abbrev pub AtMost : Type 0

@@ -137,10 +137,13 @@ templateStep process code s read =
 unfoldable pub partsAt : ℕ → ℕ → List ℕ → ℕ → ReadCall
 partsAt process code s at = templateStep process code s (partAt (usesTemplate code) false s at)
 
+-- out, rdp, inp or cas
+unfoldable pub isCode : ℕ → Bool
+isCode code = leb out code && leb code cas
+
 -- an unknown code is refused 4
 abbrev pub codeStep : ℕ → List ℕ → ℕ → ℕ → ReadCall
-codeStep process s at code =
-    cond (leb out code && leb code cas) (partsAt process code s at) (noCall (refused 4))
+codeStep process s at code = cond (isCode code) (partsAt process code s at) (noCall (refused 4))
 
 unfoldable pub bodyAt : ℕ → List ℕ → ℕ → ReadCall
 bodyAt process s at =

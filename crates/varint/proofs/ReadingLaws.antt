@@ -1,21 +1,22 @@
--- The laws of reading a number: its value is bounded by its groups, what is written reads back, what reads is what is written, and when it is cut.
+-- The laws of reading a number: its value is bounded by its groups, what is written reads back, what reads is what is written, what its bytes are worth, when it is cut, and that none is above the largest.
 use mathlib.Core.Path.{_≡_, refl, sym, ap, ap₂, _∙_, subst}
-use Prim.Native.Nat.{ℕ, zero, suc, _+_, _*_, _/_, _%_, _^_, _≤_, _<_}
+use Prim.Native.Nat.{ℕ, zero, suc, _+_, _-_, _*_, _/_, _%_, _^_, _≤_, _<_}
 use native.Mathlib.Omega.{arith}
 use mathlib.Core.Bool.{Bool, true, false, cond}
 use mathlib.Core.List.{List, [], _∷_, _++_}
 use mathlib.Core.Logic.{_↔_}
-use lib.ListN.{length, drop, getD}
-use lib.Seq.{drop-at, drop-drop}
+use lib.ListN.{length, take, drop, getD}
+use lib.Seq.{take-at, drop-at, drop-drop}
 use lib.Dec.{leb, ltb, eqb}
-use borrow.Author.Tests.{le-ltb, le-leb, ne-eqb, ltb-true, ltb-false, leb-true, eqb-false}
+use borrow.Author.Tests.{le-ltb, le-leb, lt-leb, ne-eqb, ltb-true, ltb-false, leb-true, eqb-false}
 use borrow.Table.Steps.{cases}
 use Rattle.varint.specs.declared.Number.{Number}
 use Rattle.varint.specs.declared.Number.the-variants.{Value, Cut, Overlong}
 use Rattle.varint.specs.Reading.{further, lastGroup, largest, numberRefusal, joined, numberFrom, numberAt, Bytes}
-use Rattle.varint.specs.Writing.{bytesOf, widthOf}
-use Rattle.varint.specs.Laws.{ReadBack, OnlyForm, CutRule}
-use Rattle.varint.proofs.WritingLaws.{bytes-last, bytes-step}
+use Rattle.varint.specs.Writing.{groupsOf, bytesOf, widthOf}
+use Rattle.varint.specs.Laws.{ReadBack, OnlyForm, Groups, GroupRule, ReadBeyond, CutRule}
+use Rattle.varint.specs.Laws.Groups.{last-byte, goes-on}
+use Rattle.varint.proofs.WritingLaws.{groups-last, groups-step, bytes-last, bytes-step, width-of-largest}
 
 -- the largest number that `more` groups behind the first hold
 unfoldable pub greatest : ℕ → ℕ
@@ -131,6 +132,56 @@ only-form s at value next bytes e =
     ∙ ap (drop (widthOf value)) (form .2)
     ∙ drop-at (bytesOf value) (form .0) (widthOf value) refl in
     (within, form .1, form .2 ∙ ap (λ (l : List ℕ). bytesOf value ++ l) (sym behind))
+
+-- ---- what its bytes are worth
+
+groups : (k value : ℕ) → value < 128 * 128 ^ k → Groups value (groupsOf k value)
+groups zero value fits = rw (groups-last 0 value (omega arith)) (last-byte value (omega arith))
+groups (suc k) value fits =
+    cases (ltb value 128)
+    (λ e. rw (groups-last (suc k) value (ltb-true value 128 e)) (last-byte value (ltb-true value 128 e)))
+    (λ e. let large : 128 ≤ value = ltb-false value 128 e in
+    rw (groups-step k value large)
+    (goes-on value (value % 128 + 128) (value / 128) (groupsOf k (value / 128)) (omega arith) (omega arith) (omega arith) (omega arith) (groups k (value / 128) (omega arith))))
+
+groups-written : (value : ℕ) → value ≤ largest → Groups value (bytesOf value)
+unfolding bytesOf
+groups-written value h = groups 9 value (omega arith)
+
+groups-read : (s : List ℕ) (at value next : ℕ) → Bytes s → numberAt s at ≡ Value value next → Groups value (take (next - at) (drop at s))
+groups-read s at value next bytes e =
+    let form = only-form s at value next bytes e in
+    let taken : take (next - at) (drop at s) ≡ bytesOf value =
+    ap (take (next - at)) (form .2) ∙ take-at (bytesOf value) (drop next s) (next - at) (omega (arith, form .1)) in
+    rw taken (groups-written value (form .0))
+
+pub group-rule : GroupRule
+group-rule = record { few = width-of-largest; written = groups-written; read = groups-read }
+
+-- ---- when it is above the largest
+
+beyond-first : (k value : ℕ) (rest : List ℕ) (at : ℕ) → 128 ≤ value → numberFrom zero (groupsOf k value ++ rest) at ≡ Overlong
+unfolding numberFrom groupsOf
+beyond-first zero value rest at large = rw (lt-leb value lastGroup (omega arith))
+beyond-first (suc k) value rest at large =
+    rw (groups-step k value large) (rw (lt-leb (value % 128 + 128) lastGroup (omega arith)))
+
+beyond-from : (most k value : ℕ) (rest : List ℕ) (at : ℕ) → most ≤ k → greatest most < value → numberFrom most (groupsOf k value ++ rest) at ≡ Overlong
+unfolding numberFrom greatest joined
+beyond-from zero k value rest at few h =
+    cases (ltb value 128)
+    (λ e. rw (groups-last k value (ltb-true value 128 e)) (rw (lt-leb value lastGroup h)))
+    (λ e. beyond-first k value rest at (ltb-false value 128 e))
+beyond-from (suc most) zero value rest at few h = absurd (omega arith)
+beyond-from (suc most) (suc k) value rest at few h =
+    let large : 128 ≤ value = omega arith in
+    rw (groups-step k value large)
+    (rw (le-ltb (value % 128 + 128) 128 (omega arith), beyond-from most k (value / 128) rest (at + 1) (omega arith) (omega arith)))
+
+pub read-beyond : ReadBeyond
+unfolding numberAt bytesOf greatest
+read-beyond s rest at value h e =
+    ap (λ (l : List ℕ). numberRefusal (numberFrom further l at)) e ∙ ap numberRefusal (beyond-from further 9 value rest at (omega arith) h)
 
 -- ---- when it is cut
 

@@ -17,12 +17,12 @@ unfoldable pub top : ℕ → ℕ
 top zero = 128
 top (suc more) = 128 * top more
 
-groups-last : (more value : ℕ) → value < 128 → groupsOf more value ≡ value ∷ []
+pub groups-last : (more value : ℕ) → value < 128 → groupsOf more value ≡ value ∷ []
 unfolding groupsOf
 groups-last zero value h = refl
 groups-last (suc more) value h = rw (lt-ltb value 128)
 
-groups-step : (more value : ℕ) → 128 ≤ value → groupsOf (suc more) value ≡ (value % 128 + 128) ∷ groupsOf more (value / 128)
+pub groups-step : (more value : ℕ) → 128 ≤ value → groupsOf (suc more) value ≡ (value % 128 + 128) ∷ groupsOf more (value / 128)
 unfolding groupsOf
 groups-step more value h = rw (le-ltb value 128)
 

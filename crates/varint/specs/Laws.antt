@@ -1,9 +1,9 @@
 -- The laws of numbers, as claims over the definitions.
 use mathlib.Core.Path.{_≡_}
 use mathlib.Core.Logic.{_↔_}
-use Prim.Native.Nat.{ℕ, _+_, _≤_, _<_}
-use mathlib.Core.List.{List, _++_}
-use lib.ListN.{length, drop, getD}
+use Prim.Native.Nat.{ℕ, _+_, _-_, _*_, _≤_, _<_}
+use mathlib.Core.List.{List, [], _∷_, _++_}
+use lib.ListN.{length, take, drop, getD}
 use Rattle.varint.specs.declared.Number.{Number}
 use Rattle.varint.specs.declared.Number.the-variants.{Value}
 use Rattle.varint.specs.declared.Written.{Written}
@@ -17,6 +17,22 @@ ReadBack = (s rest : List ℕ) (at value : ℕ) → value ≤ largest → drop a
 -- what reads is exactly what is written for its value
 abbrev pub OnlyForm : Type 0
 OnlyForm = (s : List ℕ) (at value next : ℕ) → Bytes s → numberAt s at ≡ Value value next → (value ≤ largest) × (next ≡ at + widthOf value) × (drop at s ≡ bytesOf value ++ drop next s)
+
+-- the bytes of a number: the low seven bits of the first, plus 128 times the number that follows if the byte's top bit is set; the number that follows
+-- is not 0
+pub data Groups : ℕ → List ℕ → Type 0 where
+  last-byte : (byte : ℕ) → byte < 128 → Groups byte (byte ∷ [])
+  goes-on : (value byte rest : ℕ) (l : List ℕ) → 128 ≤ byte → byte < 256 → value ≡ byte - 128 + 128 * rest → 1 ≤ rest → Groups rest l → Groups value (byte ∷ l)
+
+-- what is written for a number is at most five such bytes, and what is read as one is such bytes
+pub record GroupRule : Type 0 where
+  pub few : (value : ℕ) → value ≤ 4_294_967_295 → widthOf value ≤ 5
+  pub written : (value : ℕ) → value ≤ 4_294_967_295 → Groups value (bytesOf value)
+  pub read : (s : List ℕ) (at value next : ℕ) → Bytes s → numberAt s at ≡ Value value next → Groups value (take (next - at) (drop at s))
+
+-- the bytes that a number above the largest would have are refused 3
+abbrev pub ReadBeyond : Type 0
+ReadBeyond = (s rest : List ℕ) (at value : ℕ) → 4_294_967_295 < value → drop at s ≡ bytesOf value ++ rest → numberRefusal (numberAt s at) ≡ 3
 
 -- each answer that is a refusal is the one of its number
 pub record Numbered : Type 0 where

@@ -6,9 +6,8 @@ use mathlib.Core.List.{List}
 use borrow.Author.Tests.{le-leb, lt-leb}
 use Rattle.record.specs.declared.reader.ReadNumber.{ReadNumber}
 use Rattle.record.specs.declared.reader.ReadCall.{ReadCall}
-use Rattle.record.specs.Reading.{noCall, codeStep, bodyAt}
+use Rattle.record.specs.Reading.{noCall, isCode, codeStep, bodyAt}
 use Rattle.record.proofs.Steps.{goes-on, stops}
-use Rattle.tuple.specs.Fields.{out, cas}
 use Rattle.record.proofs.reader.Cursor.body.Statement.{statement}
 use Rattle.record.proofs.reader.Cursor.body.Tie as tie
 
@@ -52,7 +51,8 @@ code c =
     goes-on (λ (r : ReadNumber). r .next) (go (a .process) (a .s .now)) noCall (n .number .result) _ (n .number .ensures) _ (c .before .next .given .1)
 
 returns-2 : tie.Need-returns-2
-returns-2 c = c .no-call2 .ensures ∙ sym (code (c .before .before) ∙ rw (lt-leb out _ (c .before .if1 .taken)))
+unfolding isCode
+returns-2 c = c .no-call2 .ensures ∙ sym (code (c .before .before) ∙ rw (lt-leb _ _ (c .before .if1 .taken)))
 
 cast-if2 : tie.Need-cast-if2
 cast-if2 c = search needs
@@ -61,7 +61,8 @@ no-call-requires-3 : tie.Need-no-call-requires-3
 no-call-requires-3 c κs = search needs
 
 returns-3 : tie.Need-returns-3
-returns-3 c = c .no-call3 .ensures ∙ sym (code (c .before .before .before) ∙ rw (le-leb out _ (c .before .before .if1 .left), lt-leb _ cas (c .before .if2 .taken)))
+unfolding isCode
+returns-3 c = c .no-call3 .ensures ∙ sym (code (c .before .before .before) ∙ rw (le-leb _ _ (c .before .before .if1 .left), lt-leb _ _ (c .before .if2 .taken)))
 
 cast-parts : tie.Need-cast-parts
 cast-parts c = search needs
@@ -70,7 +71,8 @@ parts-requires : tie.Need-parts-requires
 parts-requires c κs = search needs
 
 returns-4 : tie.Need-returns-4
-returns-4 c = c .parts .ensures ∙ sym (code (c .before .before .before) ∙ rw (le-leb out _ (c .before .before .if1 .left), le-leb _ cas (c .before .if2 .left)))
+unfolding isCode
+returns-4 c = c .parts .ensures ∙ sym (code (c .before .before .before) ∙ rw (le-leb _ _ (c .before .before .if1 .left), le-leb _ _ (c .before .if2 .left)))
 
 pub body-spec : {M : Type 1} → statement M
 body-spec =

@@ -133,7 +133,6 @@ tuple-read {count = count} {fields = fields} e number read =
 
 -- a code that the reader takes is 1 to 4
 code-known : (code : ℕ) → isCode code ≡ true → leb 1 code && leb code 4 ≡ true
-unfolding isCode
 code-known code e = e
 
 -- a process, a code and the parts that the code has are a call

@@ -122,7 +122,6 @@ part-back false entry tuple six sound s rest at e = λ i. record { next = place 
 
 -- the reader takes each code from 1 to 4
 code-taken : (code : ℕ) → 1 ≤ code → code ≤ 4 → isCode code ≡ true
-unfolding isCode
 code-taken zero low high = absurd (omega arith)
 code-taken (suc zero) low high = refl
 code-taken (suc (suc zero)) low high = refl

@@ -9,7 +9,7 @@ use lib.Seq.{sets, sets-eq, length-sets, getD-take}
 use borrow.Author.Tests.{le-leb, lt-leb}
 use Rattle.record.specs.declared.writer.Recorded.the-variants.{Length, Unwritten}
 use Rattle.record.specs.Heads.{headNumber}
-use Rattle.record.specs.Writing.{fieldBytes, fieldsBytes, tupleBytes, partBytes, callBytes, writtenOf, leftOf}
+use Rattle.record.specs.Writing.{fieldBytes, fieldsBytes, tupleBytes, partBytes, callBytes, roomStep, writtenOf, bufferStep, leftOf}
 use Rattle.record.specs.Private.{WritableField, WritablePart, WritableCall}
 use Rattle.record.proofs.NumberLaws.{kind-most}
 use Rattle.tuple.proofs.NoFault.{fields-sound, tuple-sound, SoundPart, call-sound}
@@ -140,7 +140,9 @@ call-writable call h =
 module _ (call : Call) (buffer : List ℕ) where
   pub written-fault : (refusal : Refusal) → callFault call ≡ Present refusal → (Unwritten refusal ≡ writtenOf call (length buffer)) × (buffer ≡ leftOf call buffer)
   unfolding writtenOf leftOf
-  written-fault refusal e = (rw e, rw e)
+  written-fault refusal e =
+      let answer : Unwritten refusal ≡ writtenOf call (length buffer) = sym (ap (roomStep call (length buffer)) e) in
+      (answer, ap (bufferStep call buffer) answer)
 
   pub written-full : callFault call ≡ Absent → length buffer < length (callBytes call)
       → (Unwritten NoRoom ≡ writtenOf call (length buffer)) × (buffer ≡ leftOf call buffer)

@@ -138,7 +138,7 @@ unfoldable pub partsAt : ℕ → ℕ → List ℕ → ℕ → ReadCall
 partsAt process code s at = templateStep process code s (partAt (usesTemplate code) false s at)
 
 -- out, rdp, inp or cas
-unfoldable pub isCode : ℕ → Bool
+abbrev pub isCode : ℕ → Bool
 isCode code = leb out code && leb code cas
 
 -- an unknown code is refused 4

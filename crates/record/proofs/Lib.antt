@@ -5,6 +5,7 @@ pub mod Length
 pub mod NumberLaws
 pub mod OnlyForm
 pub mod ReadBack
+pub mod RecordOrder
 pub mod Steps
 pub mod WriteRules
 pub mod WrittenLaws

@@ -36,7 +36,7 @@ use Rattle.varint.specs.Writing.{bytesOf, widthOf}
 use Rattle.varint.proofs.ReadingLaws as varint
 
 -- two parts that stand one behind the other: what stands where each begins
-parts : (s a b rest : List ℕ) (at : ℕ) → drop at s ≡ (a ++ b) ++ rest → (drop at s ≡ a ++ (b ++ rest)) × (drop (at + length a) s ≡ b ++ rest)
+pub parts : (s a b rest : List ℕ) (at : ℕ) → drop at s ≡ (a ++ b) ++ rest → (drop at s ≡ a ++ (b ++ rest)) × (drop (at + length a) s ≡ b ++ rest)
 parts s a b rest at e =
     let front : drop at s ≡ a ++ (b ++ rest) = e ∙ append-assoc a b rest in
     (front, sym (drop-drop (length a) at s) ∙ ap (drop (length a)) front ∙ drop-append-seam a (b ++ rest))

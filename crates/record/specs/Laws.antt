@@ -4,15 +4,20 @@ use mathlib.Core.Logic.{_↔_}
 use Prim.Native.Nat.{ℕ, _+_, _-_, _≤_, _<_}
 use mathlib.Core.List.{List, _++_}
 use lib.ListN.{length, take, drop}
+use Rattle.record.specs.declared.reader.Next.the-variants.{Refused}
 use Rattle.record.specs.declared.writer.Recorded.{Recorded}
 use Rattle.record.specs.declared.writer.Recorded.the-variants.{Length, Unwritten}
 use Rattle.record.specs.Reading.{place, callAt}
 use Rattle.record.specs.Writing.{callBytes, writtenOf, leftOf, longest, Typed}
 use Rattle.tuple.specs.declared.fault.Fault.the-variants.{Absent, Present}
+use Rattle.tuple.specs.declared.field.Field.{Field}
+use Rattle.tuple.specs.declared.field.Tuple.{Tuple}
 use Rattle.tuple.specs.declared.field.Call.{Call}
 use Rattle.tuple.specs.declared.refusal.Refusal.{Refusal}
-use Rattle.tuple.specs.Faults.{callFault}
+use Rattle.tuple.specs.FaultLaws.{HasTemplate, HasEntry}
+use Rattle.tuple.specs.Faults.{usedFault, callFault}
 use Rattle.tuple.specs.Refusals.{numberOf}
+use Rattle.tuple.specs.Shapes.{field}
 use Rattle.varint.specs.Reading.{Bytes}
 
 -- a call without fault, written, reads back to that call and that length, wherever it stands and whatever follows
@@ -56,6 +61,35 @@ OnlyOne =
     → callAt s at ≡ record { next = place next; call = call }
     → callAt s′ at′ ≡ record { next = place next′; call = call }
     → SameBytes s at next s′ at′ next′
+
+-- ---- reading, and the fault of a call that is handed in
+
+-- what bytes can say of a call: its process, code and used counts are numbers, a head is 4 × kind + state with a state of at most 3
+pub record Sayable (f : Field) : Type 0 where
+  pub kind : f .kind < 256
+  pub state : f .state ≤ 3
+
+pub record SayableTuple (tuple : Tuple) : Type 0 where
+  pub six : length (tuple .fields) ≡ 6
+  pub count : tuple .count ≤ 4_294_967_295
+  pub fields : (i : ℕ) → i < tuple .count → i < 6 → Sayable (field tuple i)
+
+pub record SayableCall (call : Call) : Type 0 where
+  pub process : call .process ≤ 4_294_967_295
+  pub code : call .code < 256
+  pub template : HasTemplate call → SayableTuple (call .template)
+  pub entry : HasEntry call → SayableTuple (call .entry)
+
+-- the bytes that a call's fields make, with anything behind them, are refused as the first fault of the parts that it uses, whatever its unused parts and
+-- the values of its fields; where there is none they are read to their end
+pub record OrderRule (call : Call) (s : List ℕ) (at : ℕ) : Type 0 where
+  pub refused : (why : Refusal) → usedFault call ≡ Present why → callAt s at .next ≡ Refused why
+  pub taken : usedFault call ≡ Absent → callAt s at .next ≡ place (at + length (callBytes call))
+
+abbrev pub RecordOrder : Type 0
+RecordOrder = (call : Call) (s rest : List ℕ) (at : ℕ) → SayableCall call → drop at s ≡ callBytes call ++ rest → OrderRule call s at
+
+-- ---- writing
 
 -- 01's number of what the writer answers, 0 for a length
 abbrev pub writtenRefusal : Recorded → ℕ

@@ -285,7 +285,7 @@ module _ (tuple : Tuple) (six : length (tuple .fields) ≡ places) where
 
 -- ---- a call
 
-template-rule : (call : Call) → (usesTemplate (call .code) ≡ true) ↔ HasTemplate call
+pub template-rule : (call : Call) → (usesTemplate (call .code) ≡ true) ↔ HasTemplate call
 unfolding usesTemplate
 template-rule call = (between 2 (call .code) 4, λ h. rw (le-leb 2 (call .code) (h .0), le-leb (call .code) 4 (h .1)))
 
@@ -293,7 +293,7 @@ either : (a b : Bool) → a || b ≡ true → (a ≡ true) ⊎ (b ≡ true)
 either true b h = inl refl
 either false b h = inr h
 
-entry-rule : (call : Call) → (usesEntry (call .code) ≡ true) ↔ HasEntry call
+pub entry-rule : (call : Call) → (usesEntry (call .code) ≡ true) ↔ HasEntry call
 unfolding usesEntry
 entry-rule call = (
   λ h. ⊎-elim (λ e. of-out (eqb-true (call .code) 1 e)) (λ e. of-cas (eqb-true (call .code) 4 e)) (either _ _ h),

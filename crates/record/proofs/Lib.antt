@@ -1,3 +1,4 @@
+pub mod CutLaws
 pub mod Edge
 mod FieldsLaws
 mod HeadLaws

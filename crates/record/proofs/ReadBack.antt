@@ -28,7 +28,7 @@ use Rattle.tuple.specs.declared.field.Field.{Field}
 use Rattle.tuple.specs.declared.field.Tuple.{Tuple}
 use Rattle.tuple.specs.declared.field.Call.{Call}
 use Rattle.tuple.specs.Refusals.{refusal}
-use Rattle.tuple.specs.Fields.{defined, out, cas, largestOf}
+use Rattle.tuple.specs.Fields.{defined, largestOf}
 use Rattle.tuple.specs.Bounds.{places}
 use Rattle.tuple.specs.Faults.{isDefined, fieldsFault, tupleFault, partFault, usesTemplate, usesEntry, placeBlank, restFrom, restBlank, callFault}
 use Rattle.varint.specs.Reading.{largest}
@@ -121,7 +121,7 @@ part-back true entry tuple six sound s rest at e = tuple-back entry tuple six (s
 part-back false entry tuple six sound s rest at e = λ i. record { next = place (sym (add-zero at) i); tuple = blank-tuple tuple six (sound .rest) i }
 
 -- the reader takes each code from 1 to 4
-code-taken : (code : ℕ) → 1 ≤ code → code ≤ 4 → isCode code ≡ true
+pub code-taken : (code : ℕ) → 1 ≤ code → code ≤ 4 → isCode code ≡ true
 code-taken zero low high = absurd (omega arith)
 code-taken (suc zero) low high = refl
 code-taken (suc (suc zero)) low high = refl

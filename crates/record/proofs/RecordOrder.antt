@@ -13,11 +13,9 @@ use borrow.Table.Steps.{cases}
 use Rattle.record.specs.declared.head.Head.the-variants.{Known, Unknown}
 use Rattle.record.specs.declared.reader.Next.{Next}
 use Rattle.record.specs.declared.reader.Next.the-variants.{At, Refused}
-use Rattle.record.specs.declared.reader.ReadNumber.{ReadNumber}
-use Rattle.record.specs.declared.reader.ReadTuple.{ReadTuple}
 use Rattle.record.specs.declared.reader.ReadCall.{ReadCall}
 use Rattle.record.specs.Heads.{headNumber, headOf}
-use Rattle.record.specs.Reading.{place, onward, noField, noFields, noTuple, noCall, numberStep, readNumber, valueAt, headStep, fieldAt, ReadFields, prepend, fieldsAt, tupleStep, tupleAt, partAt, entryStep, partsAt, isCode, bodyAt, callAt}
+use Rattle.record.specs.Reading.{place, onward, noField, noFields, noCall, numberStep, readNumber, valueAt, headStep, fieldAt, ReadFields, prepend, fieldsAt, tupleStep, tupleAt, partAt, entryStep, partsAt, isCode, codeStep, bodyAt, callAt}
 use Rattle.record.specs.Writing.{fieldBytes, fieldsBytes, tupleBytes, partBytes, callBytes}
 use Rattle.record.specs.Laws.{Sayable, SayableTuple, SayableCall, RecordOrder}
 use Rattle.record.proofs.HeadLaws.{head-of}
@@ -31,7 +29,7 @@ use Rattle.tuple.specs.declared.field.Call.{Call}
 use Rattle.tuple.specs.declared.refusal.Refusal.{Refusal}
 use Rattle.tuple.specs.declared.refusal.Refusal.the-variants.{Beyond, Misshapen}
 use Rattle.tuple.specs.Bounds.{places}
-use Rattle.tuple.specs.Fields.{defined, out, cas, largestOf, blankField}
+use Rattle.tuple.specs.Fields.{defined, largestOf, blankField}
 use Rattle.tuple.specs.Faults.{unless, first, knownHead, isDefined, fieldFault, fieldsFault, tupleFault, partFault, usesTemplate, usesEntry, usedFault}
 use Rattle.tuple.proofs.FaultLaws.{defined-fault}
 use Rattle.tuple.proofs.FaultRules.{template-rule, entry-rule}
@@ -45,7 +43,7 @@ use Rattle.varint.proofs.ReadingLaws.{read-beyond}
 
 -- ---- where reading goes, by a fault
 
-abbrev nextOf : Fault → ℕ → Next
+abbrev pub nextOf : Fault → ℕ → Next
 nextOf Absent end = place end
 nextOf (Present why) end = Refused why
 
@@ -56,11 +54,11 @@ onward-next next from go stop stays Absent g mid end e h = ap (λ (n : Next). ne
 onward-next next from go stop stays (Present why) g mid end e h = ap (λ (n : Next). next (onward n go stop)) e ∙ stays why
 
 -- a tuple ends where its fields do, and a call where its entry does
-tuple-end : (count : ℕ) (fields : List Field) (next : Next) → tupleStep count (record { next = next; fields = fields }) .next ≡ next
+pub tuple-end : (count : ℕ) (fields : List Field) (next : Next) → tupleStep count (record { next = next; fields = fields }) .next ≡ next
 tuple-end count fields (At cursor) = refl
 tuple-end count fields (Refused why) = refl
 
-call-end : (process code : ℕ) (template entry : Tuple) (next : Next) → entryStep process code template (record { next = next; tuple = entry }) .next ≡ next
+pub call-end : (process code : ℕ) (template entry : Tuple) (next : Next) → entryStep process code template (record { next = next; tuple = entry }) .next ≡ next
 call-end process code template entry (At cursor) = refl
 call-end process code template entry (Refused why) = refl
 
@@ -92,7 +90,7 @@ unfolding fieldFault
 undefined-fault true f known d = rw (known, d)
 undefined-fault false f known d = rw (known, d)
 
-abbrev valueBytes : Field → List ℕ
+abbrev pub valueBytes : Field → List ℕ
 valueBytes f = cond (isDefined f) (bytesOf (f .value)) []
 
 -- behind the head of a field that has no value
@@ -131,7 +129,7 @@ head-next entry f held s rest at e =
     (λ known. rw (head-of f known) (known-next entry f known s rest at e))
     (λ unknown. rw (no-head f (held .state) unknown, unknown-fault entry f unknown))
 
-field-next : (entry : Bool) (f : Field) → Sayable f → (s rest : List ℕ) (at : ℕ) → drop at s ≡ fieldBytes f ++ rest
+pub field-next : (entry : Bool) (f : Field) → Sayable f → (s rest : List ℕ) (at : ℕ) → drop at s ≡ fieldBytes f ++ rest
     → fieldAt entry s at .next ≡ nextOf (fieldFault entry f) (at + length (fieldBytes f))
 unfolding fieldAt fieldBytes
 field-next entry f held s rest at e =
@@ -176,13 +174,17 @@ tuple-next entry tuple held s rest at e =
     ∙ rw (length-append, add-assoc)))
     (λ counted. rw counted))
 
-part-next : (used entry : Bool) (tuple : Tuple) → (used ≡ true → SayableTuple tuple) → (s rest : List ℕ) (at : ℕ) → drop at s ≡ partBytes used tuple ++ rest
+pub part-next : (used entry : Bool) (tuple : Tuple) → (used ≡ true → SayableTuple tuple) → (s rest : List ℕ) (at : ℕ) → drop at s ≡ partBytes used tuple ++ rest
     → partAt used entry s at .next ≡ nextOf (partFault tuple used entry) (at + length (partBytes used tuple))
 unfolding partAt partBytes partFault
 part-next true entry tuple held s rest at e = tuple-next entry tuple (held refl) s rest at e
 part-next false entry tuple held s rest at e = rw add-zero
 
 -- ---- the call
+
+-- an unknown code is refused 4, whatever follows it
+code-next : (process : ℕ) (s : List ℕ) (at code : ℕ) → isCode code ≡ false → codeStep process s at code .next ≡ Refused (refusal 4)
+code-next process s at code unknown = ap (λ (t : Bool). cond t (partsAt process code s at) (noCall (Refused (refusal 4))) .next) unknown
 
 module _ (call : Call) (held : SayableCall call) where
   parts-next : (s rest : List ℕ) (at : ℕ)
@@ -222,7 +224,7 @@ module _ (call : Call) (held : SayableCall call) where
       (cases (isCode (call .code))
       (λ known. rw known
       (parts-next s rest (at + length process + length code) (behind .1) ∙ simp (length-append, add-assoc)))
-      (λ unknown. rw unknown))
+      (λ unknown. code-next (call .process) s (at + length process + length code) (call .code) unknown ∙ rw unknown))
 
 pub record-order : RecordOrder
 record-order call s rest at held e =

@@ -16,7 +16,7 @@ use Rattle.tuple.specs.declared.field.Call.{Call}
 use Rattle.tuple.specs.declared.refusal.Refusal.{Refusal}
 use Rattle.tuple.specs.FaultLaws.{HasTemplate, HasEntry}
 use Rattle.tuple.specs.Faults.{usedFault, callFault}
-use Rattle.tuple.specs.Refusals.{numberOf}
+use Rattle.tuple.specs.Refusals.{numberOf, refusal}
 use Rattle.tuple.specs.Shapes.{field}
 use Rattle.varint.specs.Reading.{Bytes}
 
@@ -88,6 +88,16 @@ pub record OrderRule (call : Call) (s : List ℕ) (at : ℕ) : Type 0 where
 
 abbrev pub RecordOrder : Type 0
 RecordOrder = (call : Call) (s rest : List ℕ) (at : ℕ) → SayableCall call → drop at s ≡ callBytes call ++ rest → OrderRule call s at
+
+-- bytes that end inside a record are refused 2: those of a call whose used parts have no fault, wherever they are cut
+abbrev pub CutRecord : Type 0
+CutRecord =
+    (call : Call) (s : List ℕ) (at n : ℕ)
+    → Typed call
+    → usedFault call ≡ Absent
+    → n < length (callBytes call)
+    → drop at s ≡ take n (callBytes call)
+    → callAt s at .next ≡ Refused (refusal 2)
 
 -- ---- writing
 

@@ -25,11 +25,11 @@ between least n most h = let tests = and-eq-true-iff (leb least n) (leb n most) 
 
 -- ---- faults
 
-unless-absent : (t : Bool) (refusal : Refusal) (next : Fault) → unless t refusal next ≡ Absent → (t ≡ true) × (next ≡ Absent)
+pub unless-absent : (t : Bool) (refusal : Refusal) (next : Fault) → unless t refusal next ≡ Absent → (t ≡ true) × (next ≡ Absent)
 unless-absent true refusal next h = (refl, h)
 unless-absent false refusal next h = let z : _≡_ {A = ℕ} 0 1 = cc in absurd (omega arith)
 
-first-absent : (a b : Fault) → first a b ≡ Absent → (a ≡ Absent) × (b ≡ Absent)
+pub first-absent : (a b : Fault) → first a b ≡ Absent → (a ≡ Absent) × (b ≡ Absent)
 first-absent Absent b h = (refl, h)
 first-absent (Present refusal) b h = let z : _≡_ {A = ℕ} 0 1 = cc in absurd (omega arith)
 
@@ -46,7 +46,7 @@ pub record SoundField (entry : Bool) (field : Field) : Type 0 where
   pub shaped : isDefined field ≡ false → entry ≡ false
   pub small : isDefined field ≡ true → field .value ≤ largestOf (field .kind)
 
-field-sound : (entry : Bool) (field : Field) → fieldFault entry field ≡ Absent → SoundField entry field
+pub field-sound : (entry : Bool) (field : Field) → fieldFault entry field ≡ Absent → SoundField entry field
 unfolding fieldFault
 field-sound entry field h =
     let known = unless-absent (knownHead field) Unknown _ h in

@@ -6,7 +6,7 @@ use mathlib.Core.Bool.{Bool, true, false, cond}
 use mathlib.Core.List.{List, [], _∷_, _++_}
 use mathlib.Core.Logic.{_↔_}
 use lib.ListN.{length, take, drop, getD}
-use lib.Seq.{take-at, drop-at, drop-drop}
+use lib.Seq.{length-take-le, getD-take, take-at, drop-at, drop-drop}
 use lib.Dec.{leb, ltb, eqb}
 use borrow.Author.Tests.{le-ltb, le-leb, lt-leb, ne-eqb, ltb-true, ltb-false, leb-true, eqb-false}
 use borrow.Table.Steps.{cases}
@@ -222,4 +222,19 @@ cut-rule s at =
     let cut = cut-from further (drop at s) at in (
       λ h. let ends = cut .0 h in (omega (arith, ends .0), ends .1),
       λ h. cut .1 (omega (arith, h .0), h .1),
+    )
+
+-- each byte of a number but the last goes on
+groups-on : {value : ℕ} {l : List ℕ} → Groups value l → (i : ℕ) → suc i < length l → 128 ≤ getD l i 0
+groups-on (last-byte byte low) i h = absurd (omega arith)
+groups-on (goes-on value byte rest l high small e some groups) zero h = high
+groups-on (goes-on value byte rest l high small e some groups) (suc i) h = groups-on groups i (omega arith)
+
+-- the first bytes of a number, and not all, are cut
+pub read-cut : (s : List ℕ) (at value n : ℕ) → value ≤ largest → n < widthOf value → drop at s ≡ take n (bytesOf value) → numberRefusal (numberAt s at) ≡ 2
+read-cut s at value n h below e =
+    let long : length (drop at s) ≡ n = ap length e ∙ length-take-le n (bytesOf value) (omega arith) in
+    cut-rule s at .1 (
+      omega (arith, width-of-largest value h),
+      λ i inside. rw e (rw (getD-take n (bytesOf value) i 0 (omega arith)) (groups-on (groups-written value h) i (omega arith))),
     )

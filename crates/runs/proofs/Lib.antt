@@ -8,8 +8,10 @@ pub mod Choosing
 pub mod Configs
 pub mod Counts
 pub mod Fair
+pub mod Faulty
 pub mod Firmness
 pub mod Following
+pub mod Giving
 pub mod Going
 pub mod Inhabits
 pub mod Knowing

@@ -1,17 +1,19 @@
 -- A decision that is given out stands as a tuple in the space: what replies give out, and, by the hypothesis `logged`, what states give.
-use mathlib.Core.Path.{_≡_, refl}
+use mathlib.Core.Path.{_≡_, refl, subst}
 use mathlib.Core.Bool.{true, false≢true, and-eq-true-iff}
 use mathlib.Core.List.{List, [], _∷_, _++_, List·Memᴰ}
-use mathlib.Core.Logic.{⊎-elim}
+use mathlib.Core.Logic.{inl, inr, ⊎-elim}
 use Prim.Native.Nat.{ℕ, _<_}
 use native.Mathlib.Omega.{arith}
 use lib.Dec.{eqb}
 use lib.ListN.{length, take, getD}
 use borrow.Author.Tests.{eqb-true}
 use Rattle.runs.specs.Decisions.{Decision, HasDecided, GivenOut}
+use Rattle.runs.specs.Laws.{Giver}
 use Rattle.runs.specs.Theorem.{SoundConfig}
 use Rattle.runs.proofs.Answers.{turn-put, call-shows}
 use Rattle.runs.proofs.Configs.{config-rules, stays, permitted-cas}
+use Rattle.runs.proofs.Giving.{decisionOf, said, given-out-rule}
 use Rattle.runs.proofs.Turning.{by-turn}
 use Rattle.space.specs.declared.config.Config.{Config}
 use Rattle.policy.specs.Shapes.{decidedCode, isDecisionTemplate, isDecision}
@@ -42,10 +44,6 @@ pub record Stands (tuples : List Tuple) (d : Decision) : Type 0 where
   pub shape : isDecision tuple ≡ true
   pub in-round : roundOf tuple ≡ d .round
   pub of : offsetOf (decidedCode tuple) ≡ d .offset
-
--- the decision of a tuple
-abbrev pub decisionOf : Tuple → Decision
-decisionOf tuple = record { round = roundOf tuple; offset = offsetOf (decidedCode tuple) }
 
 -- ---- what matches a decision's template is no proposal
 
@@ -119,6 +117,9 @@ Logged config calls = (process : ℕ) (d : Decision) → HasDecided config calls
 
 module _ {config : Config} {calls : List Call} (safe : SoundConfig config) (logged : Logged config calls) where
   pub stands : {d : Decision} → GivenOut config calls d → Stands (held (last config calls)) d
-  stands (GivenOut.by-inserted turn occurs answer) = inserted-stands safe calls occurs answer
-  stands (GivenOut.by-held turn occurs answer) = held-stands safe calls occurs answer
-  stands (GivenOut.by-state process d has) = logged process d has
+  stands {d} given = of (given-out-rule config calls d .0 given)
+    where
+      of : Giver config calls d → Stands (held (last config calls)) d
+      of (inl g) = subst (Stands (held (last config calls))) (said (g .3)) (inserted-stands safe calls (g .1) (g .2))
+      of (inr (inl g)) = subst (Stands (held (last config calls))) (said (g .3)) (held-stands safe calls (g .1) (g .2))
+      of (inr (inr g)) = logged (g .0) d (g .1)

@@ -1,7 +1,7 @@
 -- What keeps the theorem from being empty, and the facts behind its fields, as claims over the definitions.
 use mathlib.Core.Path.{_≡_}
 use mathlib.Core.Bool.{Bool, true, false, not, _||_}
-use mathlib.Core.List.{List, [], _∷_, _++_}
+use mathlib.Core.List.{List, [], _∷_, _++_, List·Memᴰ}
 use mathlib.Core.Logic.{_↔_, _⊎_}
 use Prim.Native.Nat.{ℕ, _+_, _-_, _*_, _≤_, _<_}
 use lib.Count.{ones}
@@ -31,7 +31,9 @@ use Rattle.tuple.specs.declared.field.Call.{Call}
 use Rattle.tuple.specs.declared.field.Tuple.{Tuple}
 use Rattle.tuple.specs.declared.offset.Offset.{Offset}
 use Rattle.tuple.specs.declared.offset.Offset.the-variants.{Bottom, Hundredths}
+use Rattle.tuple.specs.declared.reply.Outcome.the-variants.{Inserted, Held}
 use Rattle.tuple.specs.Fields.{cas}
+use Rattle.tuple.specs.Shapes.{field}
 
 -- ---- the tests say what they should
 
@@ -67,6 +69,35 @@ WrongRule =
     → 1 ≤ process
     → process ≤ config .n
     → (monitored config calls process ≡ wrong number) ↔ FirstWrong config calls process number
+
+-- ---- what is given out, and how many are faulty
+
+-- the decision that (word 2, count r, offset v, seats P) says: the value of its second field is r, and that of its third the number that stands for v
+pub record Says (tuple : Tuple) (d : Decision) : Type 0 where
+  pub second : field tuple 1 .value ≡ d .round
+  pub third : field tuple 2 .value ≡ codeOf (d .offset)
+
+-- a turn answered inserted whose entry says it, or held whose held tuple does, or a correct process that has decided it
+abbrev pub Giver : Config → List Call → Decision → Type 0
+Giver config calls d =
+    ((turn : Turn) × List·Memᴰ turn (turns config calls) × (turn .reply .outcome ≡ Inserted) × Says (turn .call .entry) d)
+    ⊎ ((turn : Turn) × List·Memᴰ turn (turns config calls) × (turn .reply .outcome ≡ Held) × Says (turn .reply .tuple) d)
+    ⊎ ((process : ℕ) × HasDecided config calls process d)
+
+-- each of these gives it out, and nothing else does, under any policy
+abbrev pub GivenOutRule : Type 0
+GivenOutRule = (config : Config) (calls : List Call) (d : Decision) → GivenOut config calls d ↔ Giver config calls d
+
+-- at most t processes from 1 to n, and among them all from 1 to n that are not correct
+pub record FaultyNamed (config : Config) (calls : List Call) : Type 0 where
+  pub named : List ℕ
+  pub few : length named ≤ config .t
+  pub range : (process : ℕ) → List·Memᴰ process named → (1 ≤ process) × (process ≤ config .n)
+  pub all : (process : ℕ) → 1 ≤ process → process ≤ config .n → (Correct config calls process → ⊥) → List·Memᴰ process named
+
+-- at most t are faulty exactly if there are such
+abbrev pub FewFaultyRule : Type 0
+FewFaultyRule = (config : Config) (calls : List Call) → FewFaulty config calls ↔ FaultyNamed config calls
 
 -- ---- a run has a space
 

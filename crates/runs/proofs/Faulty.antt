@@ -2,19 +2,17 @@
 use mathlib.Core.Path.{_≡_, refl, sym, _∙_}
 use mathlib.Core.Bool.{Bool, true, false, false≢true, cond, not, _&&_, and-eq-true-iff}
 use mathlib.Core.List.{List, [], _∷_, List·Memᴰ, List·Memᴰ·head, List·Memᴰ·tail, List·Memᴰ·not-nil, List·Memᴰ·cases-cons}
-use mathlib.Core.Logic.{inl, inr, ⊎-elim}
+use mathlib.Core.Logic.{⊎-elim}
 use Prim.Native.Nat.{ℕ, zero, suc, _+_, _≤_, _<_}
 use native.Mathlib.Omega.{arith}
 use lib.Dec.{eqb}
 use lib.ListN.{length}
 use borrow.Author.Tests.{eqb-true, eqb-false, eq-eqb, ne-eqb}
 use borrow.Table.Steps.{cases}
-use Rattle.runs.specs.Correct.{Correct, correct, amount}
-use Rattle.runs.specs.Laws.{FaultyNamed, FewFaultyRule}
+use Rattle.runs.specs.Correct.{correct, amount}
+use Rattle.runs.specs.Laws.{FewFaultyRule}
 use Rattle.runs.proofs.Counts.{amount-more}
 use Rattle.runs.proofs.Tests.{correct-rule}
-use Rattle.space.specs.declared.config.Config.{Config}
-use Rattle.tuple.specs.declared.field.Call.{Call}
 
 -- ---- those that pass, by their numbers
 

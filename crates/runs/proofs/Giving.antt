@@ -14,7 +14,7 @@ use Rattle.tuple.specs.declared.field.Tuple.{Tuple}
 use Rattle.tuple.specs.declared.field.Call.{Call}
 use Rattle.tuple.specs.declared.offset.Offset.{Offset}
 use Rattle.tuple.specs.declared.reply.Outcome.the-variants.{Inserted, Held}
-use Rattle.tuple.specs.Offsets.{codeOf, offsetOf}
+use Rattle.tuple.specs.Offsets.{offsetOf}
 use Rattle.tuple.proofs.OffsetLaws.{one-to-one}
 
 -- the decision of a tuple

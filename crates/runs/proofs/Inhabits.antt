@@ -21,7 +21,8 @@ use Rattle.runs.specs.Correct.{unbegun, listed, right, watched, monitore
 use Rattle.runs.specs.Decisions.{DoneProposal, hasDoneProposal, callsOf}
 use Rattle.runs.specs.Laws.{Inhabited}
 use Rattle.runs.specs.Theorem.{SoundConfig, turnOn}
-use Rattle.runs.proofs.Going.{has-more, skips, correct-skips, within, out-due, between, fitting, DecidedIn, decided-or-busy, busy-call}
+use Rattle.runs.proofs.Going.{within, out-due, between, fitting, DecidedIn, decided-or-busy, busy-call}
+use Rattle.runs.proofs.Monitoring.{has-more, skips, correct-skips}
 use Rattle.runs.proofs.Promptness.{own-begun, has-within}
 use Rattle.runs.proofs.Proposing.{proposed-more}
 use Rattle.runs.proofs.Configs.{config-sound, config-startable}

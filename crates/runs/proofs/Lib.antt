@@ -15,6 +15,7 @@ pub mod Giving
 pub mod Going
 pub mod Inhabits
 pub mod Knowing
+pub mod Monitoring
 pub mod Prompt
 pub mod Promptness
 pub mod Proposing

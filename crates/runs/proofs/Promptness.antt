@@ -11,9 +11,10 @@ use Rattle.runs.specs.Decisions.GivenOut.{by-state}
 use Rattle.runs.specs.Theorem.{SoundConfig}
 use Rattle.runs.proofs.Following.{Busy}
 use Rattle.runs.proofs.Following.Busy.{reading, deciding}
-use Rattle.runs.proofs.Going as going
-use Rattle.runs.proofs.Going.{has-more, DecidedIn, decided-or-busy}
+use Rattle.runs.proofs.Going.{DecidedIn, decided-or-busy}
 use Rattle.runs.proofs.Knowing.{asks}
+use Rattle.runs.proofs.Monitoring as monitoring
+use Rattle.runs.proofs.Monitoring.{has-more}
 use Rattle.runs.proofs.Prompt.{Stood, Pending, prompt}
 use Rattle.runs.proofs.Prompt.Pending.{reads, casts}
 use Rattle.runs.proofs.Proposing.{proposed-stands}
@@ -64,7 +65,7 @@ pub has-within : {config : Config} (s : SoundConfig config) (calls more : List C
     → config .n + 1 ≤ callsOf q more
     → DecidedIn config (calls ++ more) q round
 has-within {config} s calls more {q} later round p enough many =
-    let b = going.before config q calls more later in
+    let b = monitoring.before config q calls more later in
     let c = b .early in
     let at = here s c in
     ⊎-elim (λ (d : DecidedIn config calls q round). (d .0, has-more config q calls more (d .1) later))
@@ -84,5 +85,5 @@ pub promptness : {config : Config} → SoundConfig config → (calls before with
     × GivenOut config calls (record { round = round; offset = offset })
 promptness {config} s calls before within behind split process round c own p enough many =
     let whole = rw split at c in
-    let d = has-within s before within (going.before config process (before ++ within) behind whole .early) round p enough many in
+    let d = has-within s before within (monitoring.before config process (before ++ within) behind whole .early) round p enough many in
     (d .0, d .1, by-state process (record { round = round; offset = d .0 }) (rw split (has-more config process (before ++ within) behind (d .1) whole)))

@@ -1,19 +1,19 @@
 -- The monitor over a list of calls: each turn is skipped or a due one, and the invariant holds after all of them. From the invariant's steps.
 use mathlib.Core.Path.{_≡_, refl, sym, ap, _∙_, subst}
 use Prim.Native.Nat.{ℕ, _≤_}
-use native.Mathlib.Omega.{arith}
 use mathlib.Core.Bool.{true, false≢true}
 use mathlib.Core.List.{List, [], _∷_, _++_, append-assoc, append-nil, List·Memᴰ, List·Memᴰ·not-nil}
 use lib.Dec.{eqb}
 use borrow.Author.Tests.{eqb-true, eqb-false}
 use borrow.Table.Steps.{cases}
-use Rattle.runs.specs.Correct.{Watch, unbegun, listed, due, Finding, right, wrong, watched, monitored, Correct}
+use Rattle.runs.specs.Correct.{Watch, unbegun, listed, due, right, watched, monitored, Correct}
 use Rattle.runs.specs.Decisions.{Decision, decisionsOver, decisionsOf}
 use Rattle.runs.specs.Theorem.{SoundConfig}
 use Rattle.runs.proofs.Fair.{Fair, fair-none, fair-step, same-tuples}
 use Rattle.runs.proofs.Following.{Log, took, Good, Own, other, own-turn}
 use Rattle.runs.proofs.Following.Sound.{rests}
 use Rattle.runs.proofs.Configs.{config-sound}
+use Rattle.runs.proofs.Monitoring.{right-same, wrong-right}
 use Rattle.space.specs.declared.config.Config.{Config}
 use Rattle.space.specs.declared.space.Space.{Space}
 use Rattle.calls.specs.Turns.{lastOf, after, last, applied, turnsFrom, turns}
@@ -22,24 +22,6 @@ use Rattle.calls.proofs.RunSteps.{fresh-space}
 use Rattle.space.proofs.SpaceRules.{held-of}
 use Rattle.tuple.specs.declared.field.Tuple.{Tuple}
 use Rattle.tuple.specs.declared.field.Call.{Call}
-
--- ---- one finding
-
-watchOf : Watch → Finding → Watch
-watchOf other (right watch) = watch
-watchOf other (wrong number) = other
-
-pub right-same : {a b : Watch} → right a ≡ right b → a ≡ b
-unfolding watchOf
-right-same {a} e = ap (watchOf a) e
-
-isWrong : Finding → ℕ
-isWrong (right watch) = 0
-isWrong (wrong number) = 1
-
-pub wrong-right : {number : ℕ} {watch : Watch} → wrong number ≡ right watch → ⊥
-unfolding isWrong
-wrong-right e = let z : _≡_ {A = ℕ} 1 0 = ap isWrong e in omega arith
 
 -- ---- one turn
 

@@ -11,8 +11,7 @@ use borrow.Author.Tests.{eqb-true, eq-eqb}
 use borrow.Table.Steps.{cases}
 use Rattle.runs.specs.Correct.{Watch, unbegun, due, tookTurn, Finding, right, wrong, watched, monitored}
 use Rattle.runs.specs.Laws.{WrongRule}
-use Rattle.runs.proofs.Going.{monitored-append}
-use Rattle.runs.proofs.Watching.{wrong-right}
+use Rattle.runs.proofs.Monitoring.{monitored-append, wrong-right}
 use Rattle.space.specs.declared.config.Config.{Config}
 use Rattle.space.specs.declared.space.Space.{Space}
 use Rattle.space.specs.Spaces.{freshOf}

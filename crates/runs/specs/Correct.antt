@@ -101,11 +101,15 @@ pub data Finding : Type 0 where
   right : Watch → Finding
   wrong : ℕ → Finding
 
+-- a turn under the process's number is its own
+abbrev pub isOwn : ℕ → Turn → Bool
+isOwn process turn = eqb (turn .call .process) process
+
 -- over turns from this number on
 unfoldable pub watched : Config → ℕ → ℕ → Watch → List Turn → Finding
 watched config process number watch [] = right watch
 watched config process number watch (turn ∷ rest) =
-    cond (eqb (turn .call .process) process)
+    cond (isOwn process turn)
     (cond (due config process (watch .entered) (watch .standing) (turn .call))
     (watched config process (number + 1) (tookTurn config process watch (turn .call) (turn .reply)) rest)
     (wrong number))

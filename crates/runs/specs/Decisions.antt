@@ -8,7 +8,7 @@ use Rattle.process.specs.declared.process.Next.{Next}
 use Rattle.process.specs.declared.process.Next.the-variants.{Calls, Decides, Refuses}
 use Rattle.process.specs.declared.process.Process.{Process}
 use Rattle.process.specs.Procedure.{resumed}
-use Rattle.runs.specs.Correct.{Watch, unbegun, stateOf, tookTurn, Correct}
+use Rattle.runs.specs.Correct.{Watch, unbegun, stateOf, tookTurn, isOwn, Correct}
 use Rattle.space.specs.declared.config.Config.{Config}
 use Rattle.policy.specs.Shapes.{decidedCode}
 use Rattle.space.specs.Shapes.{processOf, proposedCode, roundOf, isProposal}
@@ -75,7 +75,7 @@ unfoldable pub decisionsOver : Config → ℕ → Watch → List Turn → List D
 decisionsOver config process watch [] = []
 decisionsOver config process watch (turn ∷ rest) =
     let state = stateOf config process (watch .standing) (turn .call) in
-    cond (eqb (turn .call .process) process)
+    cond (isOwn process turn)
     (decisionsOver config process (tookTurn config process watch (turn .call) (turn .reply)) rest ++ decisionIn state (resumed state (turn .reply) .next))
     (decisionsOver config process watch rest)
 

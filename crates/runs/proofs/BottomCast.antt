@@ -45,7 +45,7 @@ no-member k m = let nothing : 0 / 2 ^ (k - 1) ≡ 0 = zero-div (2 ^ (k - 1)) in 
 
 module _ {config : Config} (s : SoundConfig config) {tuples : List Tuple} (fair : Fair config tuples) where
   -- a process has one proposal in a round
-  one-proposal : {round k v w : ℕ} → Proposed config tuples round k v → Proposed config tuples round k w → v ≡ w
+  pub one-proposal : {round k v w : ℕ} → Proposed config tuples round k v → Proposed config tuples round k w → v ≡ w
   one-proposal a b =
       let i = place tuples (a .placed .stands) in
       let j = place tuples (b .placed .stands) in

@@ -68,7 +68,7 @@ amount-none zero k = refl
 amount-none (suc n) k = omega (arith, amount-none n (k + 1))
 
 -- a list of all that pass is as long
-amount-named : (named : List ℕ) (test : ℕ → Bool) (n k : ℕ) → ((j : ℕ) → k ≤ j → j < k + n → test j ≡ true → List·Memᴰ j named) → amount test n k ≤ length named
+pub amount-named : (named : List ℕ) (test : ℕ → Bool) (n k : ℕ) → ((j : ℕ) → k ≤ j → j < k + n → test j ≡ true → List·Memᴰ j named) → amount test n k ≤ length named
 amount-named [] test n k all =
     let none : amount test n k ≤ amount (λ j. false) n k = amount-more test (λ j. false) n k (λ j least most h. absurd (List·Memᴰ·not-nil (all j least most h))) in
     omega (arith, amount-none n k)

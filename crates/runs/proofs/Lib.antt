@@ -7,6 +7,7 @@ pub mod Casting
 pub mod Choosing
 pub mod Configs
 pub mod Counts
+pub mod Differing
 pub mod Fair
 pub mod Faulty
 pub mod Firmness
@@ -23,6 +24,8 @@ pub mod Replies
 pub mod Runs
 pub mod Shapes
 pub mod Standing
+pub mod StrayRuns
+pub mod Strays
 pub mod Sweep
 pub mod Tests
 pub mod Turning

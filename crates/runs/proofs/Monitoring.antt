@@ -118,3 +118,8 @@ module _ (config : Config) (q : ℕ) where
         watch = tookTurn config q (c .watch) call (applied (last config calls) call .reply);
         stands = monitored-append calls (call ∷ []) ∙ rw (c .stands, eq-eqb (call .process) q own, d);
       }
+
+  -- once wrong, never correct again
+  pub stays-wrong : (calls more : List Call) {number : ℕ} → monitored config calls q ≡ wrong number → Correct config (calls ++ more) q → ⊥
+  stays-wrong calls more {number} w c =
+      let still : monitored config (calls ++ more) q ≡ wrong number = monitored-append calls more ∙ rw w refl in wrong-right (sym still ∙ c .stands)

@@ -30,11 +30,11 @@ use Rattle.tuple.specs.declared.offset.Offset.{Offset}
 use Rattle.tuple.specs.Offsets.{codeOf}
 
 module _ {config : Config} (s : SoundConfig config) {calls : List Call} {q : ℕ} (c : Correct config calls q) (round : ℕ) where
-  abbrev tuples : List Tuple
+  abbrev pub tuples : List Tuple
   tuples = here s c .tuples
 
   -- a proposal of the calls stands there
-  there : {k : ℕ} {v : Offset} → DoneProposal (turns config calls) round k v → space.Proposed config tuples round k (codeOf v)
+  pub there : {k : ℕ} {v : Offset} → DoneProposal (turns config calls) round k v → space.Proposed config tuples round k (codeOf v)
   there {k} {v} p = subst (λ (l : List Tuple). space.Proposed config l round k (codeOf v)) (held-here s c) (proposed-stands s calls v .0 p)
 
   -- its own proposal done, it has begun the round

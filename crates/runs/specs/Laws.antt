@@ -11,10 +11,11 @@ use lib.ListN.{length}
 use Rattle.process.specs.declared.process.Next.the-variants.{Calls}
 use Rattle.process.specs.declared.process.Process.{Process}
 use Rattle.process.specs.Fits.{fits}
+use Rattle.process.specs.Laws.{MayPropose}
 use Rattle.process.specs.Procedure.{started}
 use Rattle.runs.specs.Correct.{Watch, sameCall, listed, due, stateOf, wrong, monitored, Correct, correct, amount}
 use Rattle.runs.specs.Correct.Standing.{idle, busy, stuck}
-use Rattle.runs.specs.Decisions.{Decision, DoneProposal, hasDoneProposal, GivenOut, HasDecided}
+use Rattle.runs.specs.Decisions.{Decision, DoneProposal, hasDoneProposal, GivenOut, HasDecided, callsOf}
 use Rattle.runs.specs.Theorem.{SoundConfig, FewFaulty}
 use Rattle.space.specs.declared.config.Config.{Config}
 use Rattle.space.specs.declared.space.Opening.the-variants.{Stands}
@@ -31,8 +32,9 @@ use Rattle.tuple.specs.declared.field.Call.{Call}
 use Rattle.tuple.specs.declared.field.Tuple.{Tuple}
 use Rattle.tuple.specs.declared.offset.Offset.{Offset}
 use Rattle.tuple.specs.declared.offset.Offset.the-variants.{Bottom, Hundredths}
-use Rattle.tuple.specs.declared.reply.Outcome.the-variants.{Inserted, Held}
+use Rattle.tuple.specs.declared.reply.Outcome.the-variants.{Inserted, Held, Refused}
 use Rattle.tuple.specs.Fields.{cas}
+use Rattle.tuple.specs.Refusals.{refusal}
 use Rattle.tuple.specs.Shapes.{field}
 
 -- ---- the tests say what they should
@@ -212,8 +214,57 @@ pub record GoesOn (config : Config) (calls : List Call) (process : ℕ) (watch :
 abbrev pub GoingOn : Type 0
 GoingOn = (config : Config) (calls : List Call) (process : ℕ) → SoundConfig config → (c : Correct config calls process) → GoesOn config calls process (c .watch)
 
--- ---- and there are runs in which all decide
+-- ---- and there are runs in which the correct ones decide, whatever they choose
 
+-- a run of the processes 1 to m, the others astray: each process above m makes one call before all else, which is refused 7, and no other. Then the
+-- processes 1 to m call: each proposes its choice in the round, is correct, and decides
+pub record StrayRun (config : Config) (m round : ℕ) (choice : ℕ → Offset) : Type 0 where
+  pub strays : List Call
+  pub rest : List Call
+  pub refused : (turn : Turn) → List·Memᴰ turn (turns config strays) → turn .reply .outcome ≡ Refused (refusal 7)
+  pub once : (process : ℕ) → m < process → process ≤ config .n → (callsOf process strays ≡ 1) × (callsOf process rest ≡ 0)
+  pub later : (process : ℕ) → process ≤ m → callsOf process strays ≡ 0
+  pub faulty : (process : ℕ) → m < process → process ≤ config .n → Correct config (strays ++ rest) process → ⊥
+  pub silent : (process r : ℕ) (offset : Offset) → m < process → process ≤ config .n → DoneProposal (turns config (strays ++ rest)) r process offset → ⊥
+  pub proposes : (process : ℕ) → 1 ≤ process → process ≤ m → DoneProposal (turns config (strays ++ rest)) round process (choice process)
+  pub decides : (process : ℕ) → 1 ≤ process → process ≤ m → (offset : Offset) × HasDecided config (strays ++ rest) process (record { round = round; offset = offset })
+  -- so at most t are faulty
+  pub few : FewFaulty config (strays ++ rest)
+
+-- there is one for every m from n - t to n, every round, and every choice of what may be proposed there
+abbrev pub StrayRuns : Type 0
+StrayRuns =
+    (config : Config) (m round : ℕ) (choice : ℕ → Offset)
+    → SoundConfig config
+    → config .n - config .t ≤ m
+    → m ≤ config .n
+    → ((process : ℕ) → 1 ≤ process → process ≤ m → MayPropose config round (choice process))
+    → StrayRun config m round choice
+
+-- where t is at least 1 and no two choose one offset, each decides bottom
+abbrev pub Differing : Type 0
+Differing =
+    (config : Config) (m round : ℕ) (choice : ℕ → Offset)
+    → SoundConfig config
+    → 1 ≤ config .t
+    → ((p q : ℕ) → 1 ≤ p → p ≤ m → 1 ≤ q → q ≤ m → choice p ≡ choice q → p ≡ q)
+    → (run : StrayRun config m round choice)
+    → (process : ℕ)
+    → 1 ≤ process
+    → process ≤ m
+    → HasDecided config (run .strays ++ run .rest) process (record { round = round; offset = Bottom })
+
+-- so bottom is decided under policy 2 in some run, whatever t is from 1 on
+pub record BottomDecided (config : Config) : Type 0 where
+  pub calls : List Call
+  pub process : ℕ
+  pub few : FewFaulty config calls
+  pub has : HasDecided config calls process (record { round = 0; offset = Bottom })
+
+abbrev pub BottomRuns : Type 0
+BottomRuns = (config : Config) → SoundConfig config → config .policy ≡ 2 → 1 ≤ config .t → BottomDecided config
+
+-- and there are runs in which all n are correct and decide
 pub record AllDecide (config : Config) : Type 0 where
   pub calls : List Call
   pub all : (process : ℕ) → 1 ≤ process → process ≤ config .n → (offset : Offset) × HasDecided config calls process (record { round = 0; offset = offset })

@@ -3,40 +3,39 @@
 use mathlib.Core.Path.{_≡_, refl, sym, ap, _∙_, subst}
 use mathlib.Core.Logic.{_⊎_, inl, inr, ⊎-elim}
 use Prim.Native.Nat.{ℕ, _-_, _≤_, _<_}
-use native.Mathlib.Omega.{arith}
-use mathlib.Core.Bool.{true, false, false≢true, _&&_, or-true, and-eq-true-iff}
+use mathlib.Core.Bool.{true, false, false≢true, or-true, and-eq-true-iff}
 use mathlib.Core.List.{List, [], _∷_, _++_, List·Memᴰ, List·Memᴰ·head, List·Memᴰ·tail, List·Memᴰ·cases-cons, List·Memᴰ·append-cases, List·Memᴰ·eq-of-singleton, Memᴰ·append-left}
 use lib.Dec.{eqb}
-use borrow.Author.Tests.{eqb-true, eq-eqb, ltb-true, not-true}
+use borrow.Author.Tests.{eqb-true, eq-eqb, ltb-true}
 use borrow.Table.Steps.{cases}
-use Rattle.process.specs.declared.process.Next.{Next}
-use Rattle.process.specs.declared.process.Next.the-variants.{Calls, Decides, Refuses}
+use Rattle.process.specs.declared.process.Next.the-variants.{Calls}
 use Rattle.process.specs.declared.process.Phase.the-variants.{Proposing, Reading, Deciding}
 use Rattle.process.specs.declared.process.Process.{Process}
 use Rattle.process.specs.declared.process.Step.{Step}
 use Rattle.process.specs.Asks.{proposal, outCall, rdpCall}
 use Rattle.process.specs.Fits.{fits}
 use Rattle.process.specs.Procedure.{proposable, started, reads, resumed}
-use Rattle.process.specs.States.{noneFound, startable, wellFormed}
+use Rattle.process.specs.States.{noneFound, wellFormed}
 use Rattle.space.specs.Proposals.{offered}
-use Rattle.space.specs.Configs.{known}
 use Rattle.process.proofs.KeptLaws.{none-sound, resumed-advanced, resumed-formed, started-begun}
-use Rattle.process.proofs.StateLaws.{Same, none-at, formed-parts}
-use Rattle.runs.specs.Correct.{Standing, Watch, listed, startedBy, isCalls, due, stateOf, handed}
+use Rattle.process.proofs.StateLaws.{none-at, formed-parts}
+use Rattle.runs.specs.Correct.{Standing, Watch, listed, due, stateOf, handed}
 use Rattle.runs.specs.Correct.Standing.{idle, busy}
 use Rattle.runs.specs.Decisions.{Decision, decisionIn}
+use Rattle.runs.specs.Laws.{MayCall}
+use Rattle.runs.specs.Laws.MayCall.{begins}
 use Rattle.runs.specs.Theorem.{SoundConfig}
 use Rattle.runs.proofs.Fair.{Fair, fair-step}
 use Rattle.runs.proofs.Knowing.{at, castBy, Knows, blank-fits, Grows, knows-more, After, read, read-after, read-space, settled-by}
 use Rattle.runs.proofs.Knowing.After.{stops, goes-on}
 use Rattle.runs.proofs.Replies as space
 use Rattle.runs.proofs.Standing.{Stands}
-use Rattle.runs.proofs.Tests.{same-call-rule}
+use Rattle.runs.proofs.Starting.{started-parts, started-call, unlisted, due-rule, due-next}
 use Rattle.space.specs.declared.config.Config.{Config}
 use Rattle.calls.specs.declared.turn.Applied.{Applied}
 use Rattle.space.specs.Bounds.{rounds}
-use Rattle.tuple.specs.Offsets.{inRange, codeOf, offsetOf}
-use Rattle.space.specs.Shapes.{processOf, proposedCode, inRounds, isProposal, roundOf}
+use Rattle.tuple.specs.Offsets.{inRange, codeOf}
+use Rattle.space.specs.Shapes.{processOf, isProposal, roundOf}
 use Rattle.space.specs.Spaces.{spaceOf}
 use Rattle.calls.specs.Turns.{applied}
 use Rattle.calls.proofs.Effects as effects
@@ -51,26 +50,6 @@ use Rattle.tuple.specs.declared.reply.Reply.{Reply}
 use Rattle.tuple.specs.Fields.{blankTuple}
 use Rattle.tuple.specs.Bounds.{largestCode}
 use Rattle.tuple.proofs.OffsetLaws.{one-to-one}
-
--- ---- starting
-
-calls-is : (next : Next) → isCalls next ≡ true → next ≡ Calls
-calls-is Calls h = refl
-calls-is (Decides offset) h = absurd (false≢true h)
-calls-is (Refuses why) h = absurd (false≢true h)
-
--- a start that is not refused asked for these
-pub started-parts : (config : Config) (process round : ℕ) (offset : Offset) → started config process round offset .next ≡ Calls
-    → Same config process round × (proposable config offset ≡ true)
-unfolding started
-started-parts config process round offset =
-    cases (startable config)
-    (λ start. cases (known config process)
-    (λ member. cases (inRounds round && proposable config offset)
-    (λ both calls. let parts = and-eq-true-iff (inRounds round) _ .0 both in (record { start = start; member = member; in-rounds = parts .0 }, parts .1))
-    (λ e. rw (start, member, e) (λ calls. let z : _≡_ {A = ℕ} 0 1 = cc in absurd (omega arith))))
-    (λ e. rw (start, e) (λ calls. let z : _≡_ {A = ℕ} 0 1 = cc in absurd (omega arith))))
-    (λ e. rw e (λ calls. let z : _≡_ {A = ℕ} 0 1 = cc in absurd (omega arith)))
 
 code-proposable : (config : Config) (offset : Offset) → proposable config offset ≡ true → (offered config (codeOf offset) ≡ true) × (codeOf offset ≤ largestCode)
 code-proposable config offset h =
@@ -199,7 +178,7 @@ module _ {config : Config} (s : SoundConfig config) {q : ℕ} (low : 1 ≤ q) (h
       let entry = proposal round q (codeOf offset) in
       let reply : Reply = record { outcome = Done; tuple = blankTuple } in
       let p = at config q round Proposing noneFound in
-      let begins : stateOf config q idle (outCall q round (codeOf offset)) ≡ p =
+      let starts : stateOf config q idle (outCall q round (codeOf offset)) ≡ p =
       ap (λ (step : Step). step .process)
       (ap (started config q round) (one-to-one .back offset) ∙ started-begun config q round offset (parts .0) (parts .1)) in
       let formed : wellFormed p ≡ true = formed-parts p .1 (parts .0, none-sound config) in
@@ -209,10 +188,10 @@ module _ {config : Config} (s : SoundConfig config) {q : ℕ} (low : 1 ≤ q) (h
       let answer = space.proposes s fair q round (codeOf offset) low high early (code .0) (code .1)
       (λ tuple m shape r by. false≢true (sym fresh ∙ subst (λ (n : ℕ). listed n begun-rounds ≡ true) r (good .owns tuple m shape by))) in
       record {
-        fit = rw (answer, begins) fit;
+        fit = rw (answer, starts) fit;
         next = tuples ++ (entry ∷ []);
         space = ap (λ (a : Applied). a .space) answer;
-        good = rw (answer, begins, goes) (record {
+        good = rw (answer, starts, goes) (record {
           stands = works round (over-more round (λ r h. inr (⊎-elim (λ none. absurd none) (λ d. d) (over r h))))
               (reading 1 noneFound (record { long = refl; formed = rw goes at (kept .0); seen = λ k some there. absurd (there (none-at config noneFound (none-sound config) (k - 1))) }));
           owns = λ tuple m shape by. ⊎-elim (λ (old : List·Memᴰ tuple tuples). owns-more round tuple old shape by)
@@ -237,7 +216,7 @@ module _ {config : Config} (s : SoundConfig config) {q : ℕ} (low : 1 ≤ q) (h
     own-busy : {standing : Standing} → Busy config q tuples round standing → (call : Call) → due config q begun-rounds standing call ≡ true
         → Own config q tuples log standing call
     own-busy {standing} (reading asked found k) call h =
-        let same : rdpCall q round asked ≡ call = same-call-rule _ _ .0 h in
+        let same : rdpCall q round asked ≡ call = due-next config q begun-rounds (at config q round (Reading asked) found) _ call h in
         subst (λ (c : Call). Own config q tuples log standing c) same
         (record {
           fit = read s low high fair round asked found k .fit;
@@ -248,7 +227,7 @@ module _ {config : Config} (s : SoundConfig config) {q : ℕ} (low : 1 ≤ q) (h
     own-busy {standing} (deciding found k) call h =
         let done = settled-by s low high fair round found k in
         let d : Decision = record { round = round; offset = done .offset } in
-        let same : castBy config q round found ≡ call = same-call-rule _ _ .0 h in
+        let same : castBy config q round found ≡ call = due-next config q begun-rounds (at config q round Deciding found) _ call h in
         subst (λ (c : Call). Own config q tuples log standing c) same
         (record {
           fit = done .fit;
@@ -265,17 +244,12 @@ module _ {config : Config} (s : SoundConfig config) {q : ℕ} (low : 1 ≤ q) (h
   -- any call that is due
   own : {standing : Standing} → Sound config q tuples begun-rounds (log .decisions) standing → (call : Call)
       → due config q begun-rounds standing call ≡ true → Own config q tuples log standing call
-  own (rests over) call h =
-      let entry = call .entry in
-      let fresh = and-eq-true-iff _ _ .0 h in
-      let both = and-eq-true-iff (isCalls (startedBy config q entry .next)) _ .0 (fresh .0) in
-      let unbegun : listed (roundOf entry) begun-rounds ≡ false = not-true _ (fresh .1) in
-      let calls = calls-is _ (both .0) in
-      let offset = offsetOf (proposedCode entry) in
-      let parts = started-parts config q (roundOf entry) offset calls in
-      let same : outCall q (roundOf entry) (codeOf offset) ≡ call =
-      ap (λ (step : Step). step .call) (sym (started-begun config q (roundOf entry) offset (parts .0) (parts .1))) ∙ same-call-rule _ _ .0 (both .1) in
-      subst (λ (c : Call). Own config q tuples log idle c) same (own-out over (roundOf entry) offset unbegun calls)
+  own (rests over) call h = of (due-rule config q begun-rounds idle call .0 h)
+    where
+      of : MayCall config q begun-rounds call idle → Own config q tuples log idle call
+      of (begins round offset never goes same) =
+          subst (λ (c : Call). Own config q tuples log idle c) (sym (started-call config q round offset goes) ∙ same)
+          (own-out over round offset (unlisted round begun-rounds never) goes)
   own (works round over b) call h = own-busy round over b call h
 
   pub own-turn : (call : Call) → due config q begun-rounds (log .watch .standing) call ≡ true → Own config q tuples log (log .watch .standing) call

@@ -7,18 +7,17 @@ use mathlib.Core.Bool.{true, false}
 use mathlib.Core.List.{List, [], _∷_, _++_}
 use Rattle.process.specs.declared.process.Next.the-variants.{Calls}
 use Rattle.process.specs.declared.process.Process.{Process}
-use Rattle.process.specs.declared.process.Step.{Step}
 use Rattle.process.specs.Asks.{outCall}
 use Rattle.process.specs.Procedure.{begun, started}
-use Rattle.process.proofs.KeptLaws.{started-begun}
-use Rattle.runs.specs.Correct.{Standing, listed, startedBy, due, Correct}
+use Rattle.runs.specs.Correct.{Standing, listed, due, Correct}
 use Rattle.runs.specs.Correct.Standing.{idle, busy, stuck}
 use Rattle.runs.specs.Decisions.{Decision, HasDecided}
 use Rattle.runs.specs.Laws.{Fitting, NeverStuck, Waiting, GoingOn}
 use Rattle.runs.specs.Theorem.{SoundConfig}
-use Rattle.runs.proofs.Following.{started-parts, Busy, Sound, present, own-turn}
+use Rattle.runs.proofs.Following.{Busy, Sound, present, own-turn}
 use Rattle.runs.proofs.Monitoring.{skips, takes}
 use Rattle.runs.proofs.Standing.{Logged}
+use Rattle.runs.proofs.Starting.{started-call, out-due}
 use Rattle.runs.proofs.Tests.{same-call-rule}
 use Rattle.runs.proofs.Watching.{here, held-here}
 use Rattle.space.specs.declared.config.Config.{Config}
@@ -26,7 +25,6 @@ use Rattle.tuple.specs.declared.field.Tuple.{Tuple}
 use Rattle.tuple.specs.declared.field.Call.{Call}
 use Rattle.tuple.specs.declared.offset.Offset.{Offset}
 use Rattle.tuple.specs.Offsets.{codeOf}
-use Rattle.tuple.proofs.OffsetLaws.{one-to-one}
 
 -- ---- what a correct process knows
 
@@ -67,21 +65,6 @@ waiting config calls process round s c begun undecided =
     ⊎-elim (λ d. absurd (undecided (d .0) (d .1))) (λ b. let due = busy-call b in (due .0, due .1, due .2, due .3)) (decided-or-busy s c round begun)
 
 -- ---- the call that is due
-
--- the out that starting gives
-started-call : (config : Config) (q round : ℕ) (offset : Offset) → started config q round offset .next ≡ Calls
-    → started config q round offset .call ≡ outCall q round (codeOf offset)
-started-call config q round offset goes =
-    let parts = started-parts config q round offset goes in ap (λ (step : Step). step .call) (started-begun config q round offset (parts .0) (parts .1))
-
-pub out-due : (config : Config) (q : ℕ) (rounds : List ℕ) (round : ℕ) (offset : Offset) → listed round rounds ≡ false → started config q round offset .next ≡ Calls
-    → due config q rounds idle (outCall q round (codeOf offset)) ≡ true
-out-due config q rounds round offset fresh goes =
-    let parts = started-parts config q round offset goes in
-    let call = outCall q round (codeOf offset) in
-    let again : startedBy config q (call .entry) ≡ begun config q round offset =
-    ap (started config q round) (one-to-one .back offset) ∙ started-begun config q round offset (parts .0) (parts .1) in
-    rw (again, same-call-rule call call .1 refl, fresh)
 
 -- the number that the call due bears
 bearer : Standing → ℕ

@@ -1,5 +1,5 @@
--- The processes 1 to m decide, from calls before which none of them has begun: all propose, and then each in turn makes the calls that are due. From
--- promptness and from that a correct process always has a call.
+-- The processes 1 to m decide, after calls in which none of them has begun: all propose, and then each in turn makes the calls that are due. From the
+-- theorem's promptness, and from that a correct process always has a call.
 use mathlib.Core.Path.{_≡_, refl, sym, ap, _∙_, subst}
 use mathlib.Core.Logic.{_⊎_, inl, inr, ⊎-elim}
 use Prim.Native.Nat.{ℕ, zero, suc, _+_, _-_, _≤_, _<_}
@@ -19,11 +19,13 @@ use Rattle.process.proofs.OrderLaws.{start-order}
 use Rattle.runs.specs.Correct.{unbegun, listed, startedBy, right, monitored, Correct, amount}
 use Rattle.runs.specs.Decisions.{DoneProposal, hasDoneProposal, callsOf}
 use Rattle.runs.specs.Theorem.{SoundConfig, turnOn}
-use Rattle.runs.proofs.Going.{within, out-due, between, fitting, DecidedIn, decided-or-busy, busy-call}
+use Rattle.runs.proofs.Going.{within, between, fitting, DecidedIn, decided-or-busy, busy-call}
 use Rattle.runs.proofs.Monitoring.{has-more, skips, correct-skips}
-use Rattle.runs.proofs.Promptness.{own-begun, has-within}
+use Rattle.runs.proofs.Promptness.{own-begun}
 use Rattle.runs.proofs.Proposing.{proposed-more}
 use Rattle.runs.proofs.Configs.{hypothesis}
+use Rattle.runs.proofs.Runs.{run-theorem}
+use Rattle.runs.proofs.Starting.{out-due}
 use Rattle.runs.proofs.Strays.{calls-append, calls-other}
 use Rattle.runs.proofs.Tests.{proposed-rule}
 use Rattle.runs.proofs.Turning.{turns-append}
@@ -222,7 +224,9 @@ module _ {config : Config} (s : SoundConfig config) (m round : ℕ) (choice : �
       (λ k a b. proposed-rule (λ code. true) (turns config calls) round k .1 (choice k, d .each k a (omega arith) .1, refl)) in
       let now : DecidedIn config all q round = ⊎-elim (λ has. has)
       (λ (more : n + 1 ≤ callsOf q (run .extra)).
-      has-within s calls (run .extra) (run .each q (omega arith) few .0) round (d .each q (omega arith) few .1) (omega arith) more) (run .ends) in
+      let theorem = run-theorem config all s .promptness calls (run .extra) [] (sym (append-nil all)) q round (run .each q (omega arith) few .0)
+      (choice q) (d .each q (omega arith) few .1) (omega (arith, many)) more in
+      (theorem .0, theorem .1)) (run .ends) in
       record {
         calls = all;
         from = from-more (run .extra) (d .from) (run .above);

@@ -7,7 +7,6 @@ pub mod Casting
 pub mod Choosing
 pub mod Configs
 pub mod Counts
-pub mod Differing
 pub mod Fair
 pub mod Faulty
 pub mod Firmness
@@ -16,6 +15,7 @@ pub mod Giving
 pub mod Going
 pub mod Inhabits
 pub mod Knowing
+pub mod MonitorLaws
 pub mod Monitoring
 pub mod Prompt
 pub mod Promptness
@@ -24,6 +24,8 @@ pub mod Replies
 pub mod Runs
 pub mod Shapes
 pub mod Standing
+pub mod Starting
+pub mod StrayDecisions
 pub mod StrayRuns
 pub mod Strays
 pub mod Sweep

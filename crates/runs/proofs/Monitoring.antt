@@ -108,16 +108,14 @@ module _ (config : Config) (q : ℕ) where
   pub correct-skips : (calls : List Call) (call : Call) → (call .process ≡ q → ⊥) → Correct config calls q → Correct config (calls ++ (call ∷ [])) q
   correct-skips calls call apart c = record { some = c .some; few = c .few; watch = c .watch; stands = skips calls call apart ∙ c .stands }
 
-  pub takes : (calls : List Call) (call : Call) (c : Correct config calls q) → call .process ≡ q → due config q (c .watch .entered) (c .watch .standing) call ≡ true
-      → Correct config (calls ++ (call ∷ [])) q
-  unfolding watched turnsFrom
-  takes calls call c own d =
-      record {
-        some = c .some;
-        few = c .few;
-        watch = tookTurn config q (c .watch) call (applied (last config calls) call .reply);
-        stands = monitored-append calls (call ∷ []) ∙ rw (c .stands, eq-eqb (call .process) q own, d);
-      }
+  module _ (calls : List Call) (call : Call) (c : Correct config calls q) (own : call .process ≡ q)
+      (d : due config q (c .watch .entered) (c .watch .standing) call ≡ true) where
+    pub taken : monitored config (calls ++ (call ∷ [])) q ≡ right (tookTurn config q (c .watch) call (applied (last config calls) call .reply))
+    unfolding watched turnsFrom
+    taken = monitored-append calls (call ∷ []) ∙ rw (c .stands, eq-eqb (call .process) q own, d)
+
+    pub takes : Correct config (calls ++ (call ∷ [])) q
+    takes = record { some = c .some; few = c .few; watch = tookTurn config q (c .watch) call (applied (last config calls) call .reply); stands = taken }
 
   -- once wrong, never correct again
   pub stays-wrong : (calls more : List Call) {number : ℕ} → monitored config calls q ≡ wrong number → Correct config (calls ++ more) q → ⊥

@@ -8,14 +8,14 @@ use lib.Count.{ones}
 use lib.Dec.{eqb}
 use lib.IntN.{pos}
 use lib.ListN.{length}
-use Rattle.process.specs.declared.process.Next.the-variants.{Calls}
+use Rattle.process.specs.declared.process.Next.the-variants.{Calls, Decides}
 use Rattle.process.specs.declared.process.Process.{Process}
 use Rattle.process.specs.Fits.{fits}
 use Rattle.process.specs.Laws.{MayPropose}
-use Rattle.process.specs.Procedure.{started}
-use Rattle.runs.specs.Correct.{Watch, sameCall, listed, due, stateOf, wrong, monitored, Correct, correct, amount}
+use Rattle.process.specs.Procedure.{started, resumed}
+use Rattle.runs.specs.Correct.{Standing, Watch, sameCall, listed, due, stateOf, right, wrong, monitored, Correct, correct, amount}
 use Rattle.runs.specs.Correct.Standing.{idle, busy, stuck}
-use Rattle.runs.specs.Decisions.{Decision, DoneProposal, hasDoneProposal, GivenOut, HasDecided, callsOf}
+use Rattle.runs.specs.Decisions.{Decision, DoneProposal, hasDoneProposal, decisionsOf, GivenOut, HasDecided, callsOf}
 use Rattle.runs.specs.Theorem.{SoundConfig, FewFaulty}
 use Rattle.space.specs.declared.config.Config.{Config}
 use Rattle.space.specs.declared.space.Opening.the-variants.{Stands}
@@ -33,6 +33,7 @@ use Rattle.tuple.specs.declared.field.Tuple.{Tuple}
 use Rattle.tuple.specs.declared.offset.Offset.{Offset}
 use Rattle.tuple.specs.declared.offset.Offset.the-variants.{Bottom, Hundredths}
 use Rattle.tuple.specs.declared.reply.Outcome.the-variants.{Inserted, Held, Refused}
+use Rattle.tuple.specs.declared.reply.Reply.{Reply}
 use Rattle.tuple.specs.Fields.{cas}
 use Rattle.tuple.specs.Refusals.{refusal}
 use Rattle.tuple.specs.Shapes.{field}
@@ -53,6 +54,51 @@ abbrev pub DoneProposalRule : Type 0
 DoneProposalRule =
     (test : ℕ → Bool) (list : List Turn) (round process : ℕ)
     → (hasDoneProposal test list round process ≡ true) ↔ ((offset : Offset) × DoneProposal list round process offset × (test (codeOf offset) ≡ true))
+
+-- ---- what a correct process may call, and what becomes of it
+
+-- between rounds the out that starting gives, for a round not begun before and an offset of its choice; in a round the call that the last starting or
+-- handing gave; and nothing else
+pub data MayCall (config : Config) (process : ℕ) (entered : List ℕ) (call : Call) : Standing → Type 0 where
+  begins : (round : ℕ) (offset : Offset) → (List·Memᴰ round entered → ⊥) → started config process round offset .next ≡ Calls
+      → started config process round offset .call ≡ call → MayCall config process entered call idle
+  goes-on : (state : Process) → MayCall config process entered call (busy state call)
+
+abbrev pub DueRule : Type 0
+DueRule =
+    (config : Config) (process : ℕ) (entered : List ℕ) (standing : Standing) (call : Call)
+    → (due config process entered standing call ≡ true) ↔ MayCall config process entered call standing
+
+-- a reply is handed to a state, in its round: where the next call comes back, that is due; where a decision does, it is given, and the round is over
+pub record HandedOn (state : Process) (reply : Reply) (before after : Watch) (given now : List Decision) : Type 0 where
+  pub entered : after .entered ≡ state .round ∷ before .entered
+  pub goes : resumed state reply .next ≡ Calls → (after .standing ≡ busy (resumed state reply .process) (resumed state reply .call)) × (now ≡ given)
+  pub ends : (offset : Offset) → resumed state reply .next ≡ Decides offset → (after .standing ≡ idle) × (now ≡ record { round = state .round; offset = offset } ∷ given)
+
+pub record MonitorRule (config : Config) (process : ℕ) : Type 0 where
+  -- before all calls it has begun no round, and given no decision
+  pub start : (monitored config [] process ≡ right (record { entered = []; standing = idle })) × (decisionsOf config [] process ≡ [])
+  -- a call under another number leaves it, whatever it is
+  pub other : (calls : List Call) (call : Call) → (call .process ≡ process → ⊥)
+      → (monitored config (calls ++ (call ∷ [])) process ≡ monitored config calls process)
+      × (decisionsOf config (calls ++ (call ∷ [])) process ≡ decisionsOf config calls process)
+  -- with one of its own it is still correct exactly if it may make it
+  pub own : (calls : List Call) (call : Call) (c : Correct config calls process) → call .process ≡ process
+      → Correct config (calls ++ (call ∷ [])) process ↔ MayCall config process (c .watch .entered) call (c .watch .standing)
+  -- the reply to the first call of a round is handed to the state that starting gave
+  pub first : (calls : List Call) (round : ℕ) (offset : Offset) (c : Correct config calls process) → c .watch .standing ≡ idle
+      → started config process round offset .next ≡ Calls
+      → (d : Correct config (calls ++ (started config process round offset .call ∷ [])) process)
+      → HandedOn (started config process round offset .process) (applied (last config calls) (started config process round offset .call) .reply) (c .watch) (d .watch)
+      (decisionsOf config calls process) (decisionsOf config (calls ++ (started config process round offset .call ∷ [])) process)
+  -- and that to a later one to the state that gave it
+  pub next : (calls : List Call) (call : Call) (state : Process) (c : Correct config calls process) → c .watch .standing ≡ busy state call → call .process ≡ process
+      → (d : Correct config (calls ++ (call ∷ [])) process)
+      → HandedOn state (applied (last config calls) call .reply) (c .watch) (d .watch)
+      (decisionsOf config calls process) (decisionsOf config (calls ++ (call ∷ [])) process)
+
+abbrev pub MonitorRules : Type 0
+MonitorRules = (config : Config) (process : ℕ) → MonitorRule config process
 
 -- a wrong turn, of this number among all: the process is correct up to there, and the call is its own and not due
 pub record FirstWrong (config : Config) (calls : List Call) (process number : ℕ) : Type 0 where
@@ -240,6 +286,21 @@ StrayRuns =
     → m ≤ config .n
     → ((process : ℕ) → 1 ≤ process → process ≤ m → MayPropose config round (choice process))
     → StrayRun config m round choice
+
+-- what is decided in such a run is one offset; it is bottom or what one of them chose, and where all chose one, it is that
+pub record StrayDecision (config : Config) (m round : ℕ) (choice : ℕ → Offset) (run : StrayRun config m round choice) : Type 0 where
+  pub offset : Offset
+  pub all : (process : ℕ) → 1 ≤ process → process ≤ m → HasDecided config (run .strays ++ run .rest) process (record { round = round; offset = offset })
+  pub chosen : (offset ≡ Bottom) ⊎ ((process : ℕ) × (1 ≤ process) × (process ≤ m) × (choice process ≡ offset))
+  pub same : (v : Offset) → ((process : ℕ) → 1 ≤ process → process ≤ m → choice process ≡ v) → offset ≡ v
+
+abbrev pub StrayDecisions : Type 0
+StrayDecisions =
+    (config : Config) (m round : ℕ) (choice : ℕ → Offset)
+    → SoundConfig config
+    → 1 ≤ m
+    → (run : StrayRun config m round choice)
+    → StrayDecision config m round choice run
 
 -- where t is at least 1 and no two choose one offset, each decides bottom
 abbrev pub Differing : Type 0

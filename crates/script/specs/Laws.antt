@@ -1,15 +1,17 @@
 -- The laws of scripts and their texts, as claims over the definitions.
 use mathlib.Core.Path.{_≡_}
-use mathlib.Core.Bool.{true, cond}
+use mathlib.Core.Bool.{true, false, cond}
 use mathlib.Core.List.{List, [], _∷_, _++_}
+use mathlib.Core.Logic.{_⊎_}
 use Prim.Native.Nat.{ℕ, _+_, _*_, _≤_, _<_}
 use lib.ListN.{length, drop}
 use lib.Dec.{eqb}
 use Rattle.script.specs.declared.run.Printed.the-variants.{Length}
 use Rattle.script.specs.declared.steps.Stepped.{Stepped}
+use Rattle.script.specs.Examples.{lineText}
 use Rattle.script.specs.Lines.{numbered, unread}
 use Rattle.script.specs.Printing.{text, textBytes, printedOf}
-use Rattle.script.specs.Scripts.{Records, Opened, Stops, noConfig, configOf, setUpBytes, ended, prepend, recordsAt, recordsBytes, ran}
+use Rattle.script.specs.Scripts.{Records, Ran, Unopened, Opened, Stops, noConfig, configOf, setUpBytes, ended, prepend, recordsAt, recordsBytes, ranOn, ran}
 use Rattle.script.specs.Steps.{stepAt}
 use Rattle.script.specs.Texts.{boardText, tuplesText}
 use Rattle.calls.specs.Effects.{refuses}
@@ -20,14 +22,14 @@ use Rattle.record.specs.Reading.{place}
 use Rattle.space.specs.declared.config.Config.{Config}
 use Rattle.space.specs.declared.space.Space.{Space}
 use Rattle.space.specs.Configs.{sound}
-use Rattle.space.specs.Spaces.{held, wellFormed}
+use Rattle.space.specs.Spaces.{held, spaceOf, wellFormed}
 use Rattle.text.specs.Lines.{linesOf}
 use Rattle.text.specs.Texts.{spaced}
 use Rattle.tuple.specs.declared.fault.Fault.{Fault}
 use Rattle.tuple.specs.declared.fault.Fault.the-variants.{Present}
 use Rattle.tuple.specs.declared.field.Call.{Call}
 use Rattle.tuple.specs.declared.refusal.Refusal.{Refusal}
-use Rattle.tuple.specs.Refusals.{refusal}
+use Rattle.tuple.specs.Refusals.{numberOf, refusal}
 use Rattle.varint.specs.Reading.{Bytes, largest}
 use Rattle.varint.specs.Writing.{bytesOf}
 
@@ -40,6 +42,24 @@ TextMost = (s : List ℕ) → Bytes s → length (text s) ≤ 16 * length s + 64
 -- so a buffer of that many bytes for the longest script has room for every text: there 10 never comes
 abbrev pub AlwaysRoom : Type 0
 AlwaysRoom = (s : List ℕ) (room : ℕ) → Bytes s → textBytes ≤ room → printedOf s room ≡ Length (length (text s))
+
+-- ---- before a space stands
+
+-- what becomes of a script, in this order: more than 65,536 bytes are refused 9, whatever they are; what can't be read of the set-up 2 or 3; a set-up that
+-- is not sound 1; and then its records are made on a fresh space
+pub data Begun (s : List ℕ) : Ran → Type 0 where
+  long : 65_536 < length s → Begun s (Unopened (refusal 9))
+  unreadable : (why : Refusal) → length s ≤ 65_536 → configOf s .next ≡ Refused why → (numberOf why ≡ 2) ⊎ (numberOf why ≡ 3) → Begun s (Unopened why)
+  unsound : (at : ℕ) → length s ≤ 65_536 → configOf s .next ≡ place at → sound (configOf s .config) ≡ false → Begun s (Unopened (refusal 1))
+  stands : (at : ℕ) → length s ≤ 65_536 → configOf s .next ≡ place at → sound (configOf s .config) ≡ true
+      → Begun s (ranOn (spaceOf (configOf s .config) []) (recordsAt s at))
+
+abbrev pub BegunRule : Type 0
+BegunRule = (s : List ℕ) → Begun s (ran s)
+
+-- the text of a script that is too long
+abbrev pub LongRule : Type 0
+LongRule = (s : List ℕ) → 65_536 < length s → text s ≡ lineText "refused 9"
 
 -- ---- the set-up
 

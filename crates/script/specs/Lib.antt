@@ -1,3 +1,4 @@
+pub mod Examples
 pub mod Laws
 pub mod Lines
 pub mod Printing

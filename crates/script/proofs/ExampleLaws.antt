@@ -1,7 +1,7 @@
 -- The rows of the examples, computed.
 use mathlib.Core.Path.{refl}
 use lib.Count.{ones}
-use Rattle.script.specs.Examples.{ascii, bytesIn, scriptOf, textOf, ExampleTexts}
+use Rattle.script.specs.Examples.{bytesIn, scriptOf, textOf, ExampleTexts}
 use Rattle.script.specs.Printing.{linesFrom, printed, text}
 use Rattle.script.specs.Scripts.{configOf, recordsFrom, recordsAt, ranOn, ran}
 use Rattle.script.specs.Texts.{choicesText, configLine, unreadLine, heldLine}
@@ -24,6 +24,7 @@ use Rattle.space.specs.Proposals.{isChoice, offered, decidable, proposes, propo
 use Rattle.space.specs.Shapes.{isProposal}
 use Rattle.space.specs.Spaces.{placeSound, placesFrom, bounded, wellFormed, freshOf}
 use Rattle.text.specs.Digits.{decimalFrom, decimal}
+use Rattle.text.specs.Signs.{ascii}
 use Rattle.text.specs.Texts.{spaced, valueText, letterText, fieldText, fieldsText, tupleText, refusalText, outcomeText, replyLine, refusedLine}
 use Rattle.tuple.specs.Faults.{knownHead, fieldFault, fieldsFault, tupleFault, partFault, usesTemplate, usesEntry, usedFault, isBlank, placeBlank, restFrom, restBlank, callFault, isEntry}
 use Rattle.tuple.specs.Fields.{largestOf}

@@ -8,7 +8,6 @@ use lib.Dec.{leb, eqb}
 use borrow.Author.Tests.{leb-true, leb-false}
 use borrow.Table.Steps.{cases}
 use Rattle.script.specs.declared.setup.ReadConfig.{ReadConfig}
-use Rattle.script.specs.Examples.{ascii}
 use Rattle.script.specs.Laws.{Begun, BegunRule, LongRule}
 use Rattle.script.specs.Laws.Begun.{long, unreadable, unsound, stands}
 use Rattle.script.specs.Scripts.{scriptBytes, noConfig, behindPolicy, policyStep, tStep, configOf, openStep, configStep, ran}
@@ -20,6 +19,7 @@ use Rattle.space.specs.declared.config.Config.{Config}
 use Rattle.space.specs.Configs.{sound}
 use Rattle.space.specs.Spaces.{freshOf}
 use Rattle.text.specs.Digits.{decimalFrom, decimal}
+use Rattle.text.specs.Signs.{ascii}
 use Rattle.text.specs.Texts.{spaced, refusalText, refusedLine}
 use Rattle.tuple.specs.Refusals.{numberOf}
 use Rattle.varint.specs.declared.Number.{Number}

@@ -6,11 +6,11 @@ use mathlib.Core.Bool.{true}
 use mathlib.Core.List.{List, _++_}
 use lib.ListN.{length, drop, length-append}
 use lib.Dec.{leb, ltb}
-use borrow.Author.Tests.{le-leb, leb-true, ltb-true, ltb-false}
+use borrow.Author.Tests.{le-leb, lt-leb, leb-true, leb-false, ltb-true, ltb-false}
 use borrow.Table.Steps.{cases}
 use Rattle.script.specs.declared.run.Printed.{Printed}
 use Rattle.script.specs.declared.run.Printed.the-variants.{Length, Unprinted}
-use Rattle.script.specs.Laws.{TextMost, AlwaysRoom}
+use Rattle.script.specs.Laws.{TextMost, AlwaysRoom, RoomRules}
 use Rattle.script.specs.Printing.{linesOn, printed, opened, text, textBytes, printedOf, leftOf}
 use Rattle.script.specs.Scripts.{scriptBytes, recordsAt, configStep, configOf, ran}
 use Rattle.script.specs.Texts.{configLine, unreadLine, heldLine}
@@ -121,6 +121,42 @@ text-room s bytes =
 pub always-room : AlwaysRoom
 unfolding printedOf
 always-room s room bytes large = rw (le-leb (length (text s)) room (omega (arith, text-room s bytes)))
+
+-- ---- 10 exactly when the buffer is shorter
+
+module _ (s buffer : List ℕ) where
+  fits : length (text s) ≤ length buffer → printedOf s (length buffer) ≡ Length (length (text s))
+  unfolding printedOf
+  fits room = rw (le-leb (length (text s)) (length buffer) room)
+
+  lacks : length buffer < length (text s) → printedOf s (length buffer) ≡ Unprinted (refusal 10)
+  unfolding printedOf
+  lacks short = rw (lt-leb (length (text s)) (length buffer) short)
+
+  refused-short : printedOf s (length buffer) ≡ Unprinted (refusal 10) → length buffer < length (text s)
+  refused-short refused =
+      cases (leb (length (text s)) (length buffer))
+      (λ e. let other : Length (length (text s)) ≡ Unprinted (refusal 10) = sym (fits (leb-true (length (text s)) (length buffer) e)) ∙ refused in
+      let z : _≡_ {A = ℕ} 0 1 = cc in
+      absurd (omega arith))
+      (λ e. leb-false (length (text s)) (length buffer) e)
+
+  left-written : length (text s) ≤ length buffer → leftOf s buffer ≡ text s ++ drop (length (text s)) buffer
+  unfolding leftOf
+  left-written room = rw (le-leb (length (text s)) (length buffer) room)
+
+  left-unwritten : length buffer < length (text s) → leftOf s buffer ≡ buffer
+  unfolding leftOf
+  left-unwritten short = rw (lt-leb (length (text s)) (length buffer) short)
+
+pub room-rules : RoomRules
+room-rules s buffer =
+    record {
+      short = (refused-short s buffer, lacks s buffer);
+      unwritten = left-unwritten s buffer;
+      answer = fits s buffer;
+      written = left-written s buffer;
+    }
 
 -- ---- what a caller may take from the buffer
 

@@ -9,13 +9,9 @@ use mathlib.Core.Bool.{cond}
 use mathlib.Core.List.{List, [], _∷_, _++_, map}
 use lib.Dec.{leb}
 use Rattle.script.specs.Printing.{text}
+use Rattle.text.specs.Signs.{lineText}
 
--- ---- signs
-
--- the codes of a line's signs
-unfoldable pub ascii : String → List ℕ
-ascii empty = []
-ascii (sign then line) = code sign ∷ ascii line
+-- ---- bytes
 
 -- what a hexadecimal digit stands for: 0 to 9, A to F
 abbrev pub hexadecimal : Char → ℕ
@@ -45,11 +41,6 @@ bytes prints line = record { bytes = bytes; line = line }
 unfoldable pub scriptOf : List Part → List ℕ
 scriptOf [] = []
 scriptOf (part ∷ parts) = bytesIn (part .bytes) ++ scriptOf parts
-
--- a line with its line feed; where there is none, nothing
-abbrev pub lineText : String → List ℕ
-lineText empty = []
-lineText (sign then line) = ascii (sign then line) ++ (10 ∷ [])
 
 unfoldable pub textOf : List Part → List ℕ
 textOf [] = []

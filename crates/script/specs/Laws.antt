@@ -2,15 +2,14 @@
 use mathlib.Core.Path.{_≡_}
 use mathlib.Core.Bool.{true, false, cond}
 use mathlib.Core.List.{List, [], _∷_, _++_}
-use mathlib.Core.Logic.{_⊎_}
+use mathlib.Core.Logic.{_↔_, _⊎_}
 use Prim.Native.Nat.{ℕ, _+_, _*_, _≤_, _<_}
 use lib.ListN.{length, drop}
 use lib.Dec.{eqb}
-use Rattle.script.specs.declared.run.Printed.the-variants.{Length}
+use Rattle.script.specs.declared.run.Printed.the-variants.{Length, Unprinted}
 use Rattle.script.specs.declared.steps.Stepped.{Stepped}
-use Rattle.script.specs.Examples.{lineText}
 use Rattle.script.specs.Lines.{numbered, unread}
-use Rattle.script.specs.Printing.{text, textBytes, printedOf}
+use Rattle.script.specs.Printing.{text, textBytes, printedOf, leftOf}
 use Rattle.script.specs.Scripts.{Records, Ran, Unopened, Opened, Stops, noConfig, configOf, setUpBytes, ended, prepend, recordsAt, recordsBytes, ranOn, ran}
 use Rattle.script.specs.Steps.{stepAt}
 use Rattle.script.specs.Texts.{boardText, tuplesText}
@@ -24,6 +23,7 @@ use Rattle.space.specs.declared.space.Space.{Space}
 use Rattle.space.specs.Configs.{sound}
 use Rattle.space.specs.Spaces.{held, spaceOf, wellFormed}
 use Rattle.text.specs.Lines.{linesOf}
+use Rattle.text.specs.Signs.{lineText}
 use Rattle.text.specs.Texts.{spaced}
 use Rattle.tuple.specs.declared.fault.Fault.{Fault}
 use Rattle.tuple.specs.declared.fault.Fault.the-variants.{Present}
@@ -42,6 +42,18 @@ TextMost = (s : List ℕ) → Bytes s → length (text s) ≤ 16 * length s + 64
 -- so a buffer of that many bytes for the longest script has room for every text: there 10 never comes
 abbrev pub AlwaysRoom : Type 0
 AlwaysRoom = (s : List ℕ) (room : ℕ) → Bytes s → textBytes ≤ room → printedOf s room ≡ Length (length (text s))
+
+-- ---- the buffer
+
+-- a text goes from the buffer's first byte on, and no byte after it changes; a buffer that is shorter is refused 10, and no byte of it changes
+pub record RoomRule (s buffer : List ℕ) : Type 0 where
+  pub short : (printedOf s (length buffer) ≡ Unprinted (refusal 10)) ↔ (length buffer < length (text s))
+  pub unwritten : length buffer < length (text s) → leftOf s buffer ≡ buffer
+  pub answer : length (text s) ≤ length buffer → printedOf s (length buffer) ≡ Length (length (text s))
+  pub written : length (text s) ≤ length buffer → leftOf s buffer ≡ text s ++ drop (length (text s)) buffer
+
+abbrev pub RoomRules : Type 0
+RoomRules = (s buffer : List ℕ) → RoomRule s buffer
 
 -- ---- before a space stands
 

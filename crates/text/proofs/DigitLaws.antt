@@ -10,7 +10,8 @@ use lib.Dec.{ltb}
 use borrow.Author.Tests.{lt-ltb, le-ltb, ltb-true, ltb-false}
 use borrow.Table.Steps.{cases}
 use Rattle.io.specs.Digits.{glyph, digits, Fewest}
-use Rattle.text.specs.Digits.{digit, decimalFrom, decimal}
+use Rattle.text.specs.Digits.{digit, decimalFrom, decimal, AllDigits, valueFrom}
+use Rattle.text.specs.Laws.{DecimalRule}
 
 -- ---- the digits of `io`
 
@@ -62,10 +63,6 @@ decimal-most k n high = digits-most k n n high
 -- ---- what they are
 
 -- each is a digit
-abbrev pub AllDigits : List ℕ → Type 0
-AllDigits [] = Unit {0}
-AllDigits (d ∷ l) = (48 ≤ d) × (d ≤ 57) × AllDigits l
-
 digits-snoc : (l : List ℕ) (n : ℕ) → AllDigits l → AllDigits (l ++ (digit (n % 10) ∷ []))
 digits-snoc [] n h = (omega arith, omega arith, tt)
 digits-snoc (d ∷ l) n h = (h .0, h .1, digits-snoc l n (h .2))
@@ -99,10 +96,6 @@ decimal-first n = digits-first n n
 
 -- ---- the number that they say
 
-pub valueFrom : ℕ → List ℕ → ℕ
-valueFrom v [] = v
-valueFrom v (d ∷ l) = valueFrom (10 * v + (d - 48)) l
-
 value-snoc : (l : List ℕ) (v d : ℕ) → valueFrom v (l ++ (d ∷ [])) ≡ 10 * valueFrom v l + (d - 48)
 unfolding valueFrom
 value-snoc [] v d = refl
@@ -122,3 +115,21 @@ digits-value (suc most) n few =
 pub decimal-value : (n : ℕ) → valueFrom 0 (decimal n) ≡ n
 unfolding decimal
 decimal-value n = digits-value n n (omega arith)
+
+-- ---- no 0 stands before them
+
+keeps-first : (l : List ℕ) (d : ℕ) → 49 ≤ getD l 0 0 → 49 ≤ getD (l ++ (d ∷ [])) 0 0
+keeps-first [] d h = absurd (omega arith)
+keeps-first (c ∷ l) d h = h
+
+digits-lead : (most n : ℕ) → n ≤ most → 1 ≤ n → 49 ≤ getD (decimalFrom most n) 0 0
+unfolding decimalFrom
+digits-lead zero n few some = absurd (omega arith)
+digits-lead (suc most) n few some =
+    cases (ltb n 10)
+    (λ e. rw e (omega (arith, ltb-true n 10 e)))
+    (λ e. rw e (keeps-first (decimalFrom most (n / 10)) (digit (n % 10)) (digits-lead most (n / 10) (omega (arith, ltb-false n 10 e)) (omega (arith, ltb-false n 10 e)))))
+
+pub decimal-rule : DecimalRule
+unfolding decimal
+decimal-rule n = record { digits = decimal-all n; value = decimal-value n; shortest = λ some. digits-lead n n (omega arith) some }

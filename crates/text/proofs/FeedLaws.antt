@@ -9,11 +9,11 @@ use lib.Dec.{eqb}
 use lib.IntN.{pos, negsuc}
 use borrow.Author.Tests.{ne-eqb}
 use borrow.Table.Steps.{cases}
-use Rattle.text.specs.Digits.{decimal}
+use Rattle.text.specs.Digits.{decimal, AllDigits}
 use Rattle.text.specs.Laws.{ReplyLines}
 use Rattle.text.specs.Lines.{cutFrom, linesOf}
 use Rattle.text.specs.Texts.{feed, gap, minus, underline, doneText, noneText, insertedText, foundText, heldText, refusedText, spaced, offsetText, valueText, letterText, fieldText, fieldsText, tupleText, refusalText, outcomeText, replyText, replyLine}
-use Rattle.text.proofs.DigitLaws.{AllDigits, decimal-all}
+use Rattle.text.proofs.DigitLaws.{decimal-all}
 use Rattle.text.proofs.TextLaws.{letter-cases, value-cases}
 use Rattle.tuple.specs.declared.field.Field.{Field}
 use Rattle.tuple.specs.declared.field.Tuple.{Tuple}

@@ -1,4 +1,5 @@
 pub mod DigitLaws
+pub mod ExampleLaws
 pub mod FeedLaws
 pub mod LengthLaws
 pub mod PlaceLaws

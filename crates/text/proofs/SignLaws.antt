@@ -5,10 +5,10 @@ use native.Mathlib.Omega.{arith}
 use mathlib.Core.List.{List, _++_}
 use lib.ListN.{getD}
 use lib.IntN.{pos, negsuc}
-use Rattle.text.specs.Digits.{decimal}
+use Rattle.text.specs.Digits.{decimal, AllDigits, valueFrom}
 use Rattle.text.specs.Laws.{OffsetTexts}
 use Rattle.text.specs.Texts.{minus, underline}
-use Rattle.text.proofs.DigitLaws.{AllDigits, decimal-all, decimal-first, valueFrom, decimal-value}
+use Rattle.text.proofs.DigitLaws.{decimal-all, decimal-first, decimal-value}
 use Rattle.tuple.specs.declared.offset.Offset.the-variants.{Bottom, Hundredths}
 
 same-number : (m n : ℕ) → decimal m ≡ decimal n → m ≡ n

@@ -1,5 +1,5 @@
 -- Document 01, "A whole script": a number in decimal digits, as ASCII.
-use Prim.Native.Nat.{ℕ, zero, suc, _+_, _/_, _%_}
+use Prim.Native.Nat.{ℕ, zero, suc, _+_, _*_, _-_, _/_, _%_, _≤_}
 use mathlib.Core.Bool.{cond}
 use mathlib.Core.List.{List, [], _∷_, _++_}
 use lib.Dec.{ltb}
@@ -15,3 +15,15 @@ decimalFrom (suc more) n = cond (ltb n 10) [] (decimalFrom more (n / 10)) ++ (di
 -- fewer than n digits stand before the last one of n, or none
 unfoldable pub decimal : ℕ → List ℕ
 decimal n = decimalFrom n n
+
+-- ---- what the digits are, and the number that they say
+
+-- each is one of 0 to 9, in ASCII
+abbrev pub AllDigits : List ℕ → Type 0
+AllDigits [] = Unit {0}
+AllDigits (d ∷ l) = (48 ≤ d) × (d ≤ 57) × AllDigits l
+
+-- the number that they say, behind those that say v
+unfoldable pub valueFrom : ℕ → List ℕ → ℕ
+valueFrom v [] = v
+valueFrom v (d ∷ l) = valueFrom (10 * v + (d - 48)) l

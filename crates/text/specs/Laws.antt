@@ -1,12 +1,22 @@
 -- The laws of texts, as claims over the definitions.
 use mathlib.Core.Path.{_≡_}
 use mathlib.Core.List.{List, _∷_, _++_}
-use Prim.Native.Nat.{ℕ}
-use Rattle.text.specs.Digits.{decimal}
+use Prim.Native.Nat.{ℕ, _≤_}
+use lib.ListN.{getD}
+use Rattle.text.specs.Digits.{decimal, AllDigits, valueFrom}
 use Rattle.text.specs.Lines.{linesOf}
 use Rattle.text.specs.Texts.{offsetText, replyText, replyLine}
 use Rattle.tuple.specs.declared.offset.Offset.{Offset}
 use Rattle.tuple.specs.declared.reply.Reply.{Reply}
+
+-- the decimal of a number: digits, which say it, and no 0 before them
+pub record Decimal (n : ℕ) : Type 0 where
+  pub digits : AllDigits (decimal n)
+  pub value : valueFrom 0 (decimal n) ≡ n
+  pub shortest : 1 ≤ n → 49 ≤ getD (decimal n) 0 0
+
+abbrev pub DecimalRule : Type 0
+DecimalRule = (n : ℕ) → Decimal n
 
 -- two offsets have one text only if they are one: neither the sign nor the mark is lost
 abbrev pub OffsetTexts : Type 0

@@ -2,7 +2,7 @@
 use mathlib.Core.Path.{_≡_, refl, sym, ap, _∙_}
 use Prim.Native.Nat.{ℕ, zero, suc, _+_, _-_, _*_, _≤_, _<_}
 use native.Mathlib.Omega.{arith}
-use mathlib.Core.Bool.{true}
+use mathlib.Core.Bool.{true, cond}
 use mathlib.Core.List.{List, _++_}
 use lib.ListN.{length, drop, length-append}
 use lib.Dec.{leb, ltb}
@@ -118,25 +118,24 @@ text-room s bytes =
     (λ e. let short = leb-true (length s) scriptBytes e in omega (arith, text-most s bytes))
     (λ e. rw e (omega (arith, refused-most (refusal 9))))
 
-pub always-room : AlwaysRoom
-unfolding printedOf
-always-room s room bytes large = rw (le-leb (length (text s)) room (omega (arith, text-room s bytes)))
-
 -- ---- 10 exactly when the buffer is shorter
 
+fits : (s : List ℕ) (room : ℕ) → length (text s) ≤ room → printedOf s room ≡ Length (length (text s))
+unfolding printedOf
+fits s room long = ap (λ b. cond b (Length (length (text s))) (Unprinted (refusal 10))) (le-leb (length (text s)) room long)
+
+lacks : (s : List ℕ) (room : ℕ) → room < length (text s) → printedOf s room ≡ Unprinted (refusal 10)
+unfolding printedOf
+lacks s room short = ap (λ b. cond b (Length (length (text s))) (Unprinted (refusal 10))) (lt-leb (length (text s)) room short)
+
+pub always-room : AlwaysRoom
+always-room s room bytes large = fits s room (omega (arith, text-room s bytes))
+
 module _ (s buffer : List ℕ) where
-  fits : length (text s) ≤ length buffer → printedOf s (length buffer) ≡ Length (length (text s))
-  unfolding printedOf
-  fits room = rw (le-leb (length (text s)) (length buffer) room)
-
-  lacks : length buffer < length (text s) → printedOf s (length buffer) ≡ Unprinted (refusal 10)
-  unfolding printedOf
-  lacks short = rw (lt-leb (length (text s)) (length buffer) short)
-
   refused-short : printedOf s (length buffer) ≡ Unprinted (refusal 10) → length buffer < length (text s)
   refused-short refused =
       cases (leb (length (text s)) (length buffer))
-      (λ e. let other : Length (length (text s)) ≡ Unprinted (refusal 10) = sym (fits (leb-true (length (text s)) (length buffer) e)) ∙ refused in
+      (λ e. let other : Length (length (text s)) ≡ Unprinted (refusal 10) = sym (fits s (length buffer) (leb-true (length (text s)) (length buffer) e)) ∙ refused in
       let z : _≡_ {A = ℕ} 0 1 = cc in
       absurd (omega arith))
       (λ e. leb-false (length (text s)) (length buffer) e)
@@ -152,9 +151,9 @@ module _ (s buffer : List ℕ) where
 pub room-rules : RoomRules
 room-rules s buffer =
     record {
-      short = (refused-short s buffer, lacks s buffer);
+      short = (refused-short s buffer, lacks s (length buffer));
       unwritten = left-unwritten s buffer;
-      answer = fits s buffer;
+      answer = fits s (length buffer);
       written = left-written s buffer;
     }
 

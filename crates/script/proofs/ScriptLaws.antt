@@ -47,7 +47,10 @@ opened-refused config s at why e = ap (λ (o : Opening). printed (openStep s at 
 
 pub text-long : (s : List ℕ) → scriptBytes < length s → text s ≡ refusedLine (refusal 9)
 unfolding text ran printed
-text-long s long = rw (lt-leb (length s) scriptBytes long)
+text-long s long =
+    let refused : ran s ≡ Ran.Unopened (refusal 9) =
+    ap (λ b. cond b (configStep s (configOf s .config) (configOf s .next)) (Ran.Unopened (refusal 9))) (lt-leb (length s) scriptBytes long) in
+    ap printed refused
 
 module _ (s : List ℕ) (short : length s ≤ scriptBytes) (read : ReadConfig) (same : read ≡ configOf s) where
   begins : text s ≡ printed (configStep s (read .config) (read .next))

@@ -1,7 +1,7 @@
 -- What goes out in numbers comes back in as it was, case by case.
-use mathlib.Core.Path.{_≡_, refl, sym}
-use mathlib.Core.Bool.{true, false≢true}
-use Prim.Native.Nat.{ℕ, zero, suc}
+use mathlib.Core.Path.{_≡_, refl, sym, _∙_}
+use mathlib.Core.Bool.{false, true, false≢true}
+use Prim.Native.Nat.{ℕ, zero, suc, _≤_}
 use native.Mathlib.Omega.{arith}
 use borrow.Author.Tests.{eqb-true, ne-eqb}
 use Rattle.board_c.specs.Flat.{outcomeNumber, outcomeRefusal, plainOutcome, outcomeOf, phaseNumber, phaseValue, phaseOf, isPhase}
@@ -50,6 +50,12 @@ process-back process = rw (phase-back (process .phase))
 
 -- ---- a state that is handed in
 
+pub no-phase : (phase value : ℕ) → 4 ≤ phase → isPhase phase value ≡ false
+unfolding isPhase
+no-phase phase value h =
+    simp
+    (ne-eqb phase 0 (λ e. omega (arith, e)), ne-eqb phase 1 (λ e. omega (arith, e)), ne-eqb phase 2 (λ e. omega (arith, e)), ne-eqb phase 3 (λ e. omega (arith, e)))
+
 kept-number : (phase value : ℕ) → isPhase phase value ≡ true → (phaseNumber (phaseOf phase value) ≡ phase) × (phaseValue (phaseOf phase value) ≡ value)
 unfolding isPhase phaseOf
 kept-number zero value h = (refl, sym (eqb-true value 0 h))
@@ -57,12 +63,8 @@ kept-number (suc zero) value h = (refl, refl)
 kept-number (suc (suc zero)) value h = (refl, sym (eqb-true value 0 h))
 kept-number (suc (suc (suc zero))) value h = (refl, refl)
 kept-number (suc (suc (suc (suc phase)))) value h =
-    let n = suc (suc (suc (suc phase))) in
-    absurd
-    (false≢true
-    (rw
-    (ne-eqb n 0 (λ e. omega (arith, e)), ne-eqb n 1 (λ e. omega (arith, e)), ne-eqb n 2 (λ e. omega (arith, e)), ne-eqb n 3 (λ e. omega (arith, e)))
-    at h))
+    let never = no-phase (suc (suc (suc (suc phase)))) value (omega arith) in
+    absurd (false≢true (sym never ∙ h))
 
 pub process-kept : KeptRule
 process-kept process h =

@@ -7,6 +7,7 @@ use lib.Dec.{eqb}
 use borrow.Author.Tests.{ne-eqb}
 use Rattle.board_c.specs.Flat.{plainOutcome, outcomeOf, isPhase, phaseOf, flaggedOffset}
 use Rattle.board_c.specs.Numbers.{reply, Numbers}
+use Rattle.board_c.proofs.FlatLaws.{no-phase}
 use Rattle.tuple.specs.declared.refusal.Refusal.{Refusal}
 use Rattle.tuple.specs.declared.refusal.Refusal.the-variants.{Unscripted}
 use Rattle.tuple.specs.declared.reply.Outcome.the-variants.{Refused}
@@ -48,8 +49,7 @@ numbers =
       state-out = λ config process round found value. refl;
       state-in = λ config process round found value. refl;
       phases = λ value. (refl, refl, refl, refl);
-      phase-none = λ phase value h.
-          rw (above phase 0 (omega arith), above phase 1 (omega arith), above phase 2 (omega arith), above phase 3 h);
+      phase-none = no-phase;
       value-none = λ value h. (above value 0 h, above value 0 h);
       state-none = λ process reply none. rw none;
       step-out = λ process call z. refl;

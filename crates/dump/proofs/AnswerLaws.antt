@@ -10,7 +10,7 @@ use lib.Dec.{leb, eqb}
 use borrow.Author.Tests.{le-leb, lt-leb, leb-true, leb-false, eqb-true, eqb-false, eq-eqb, ne-eqb}
 use borrow.Table.Steps.{cases}
 use Rattle.dump.specs.Dumps.{dumpBytes, isReached, writtenOf, leftOf}
-use Rattle.dump.specs.Laws.{UnsoundRule, UnscriptedRule, Stored, BufferRules}
+use Rattle.dump.specs.Laws.{UnsoundRule, UnscriptedRule, NoRoomRule, Stored, BufferRules}
 use Rattle.record.specs.declared.writer.Recorded.{Recorded}
 use Rattle.record.specs.declared.writer.Recorded.the-variants.{Length, Unwritten}
 use Rattle.space.specs.declared.space.Space.{Space}
@@ -47,7 +47,7 @@ pub data Answers (space : Space) (room : ℕ) : Recorded → Type 0 where
   unsound : wellFormed space ≡ false → Answers space room (Unwritten (refusal 1))
   unscripted : wellFormed space ≡ true → space .config .policy ≡ 5 → Answers space room (Unwritten (refusal 15))
   unreached : (space .config .policy ≡ 5 → ⊥) → isReached space ≡ false → Answers space room (Unwritten (refusal 14))
-  full : Answers space room (Unwritten (refusal 10))
+  full : wellFormed space ≡ true → (space .config .policy ≡ 5 → ⊥) → isReached space ≡ true → room < length (dumpBytes space) → Answers space room (Unwritten (refusal 10))
   written : wellFormed space ≡ true → (space .config .policy ≡ 5 → ⊥) → isReached space ≡ true → length (dumpBytes space) ≤ room → Answers space room (Length (length (dumpBytes space)))
 
 pub answers : (space : Space) (room : ℕ) → Answers space room (writtenOf space room)
@@ -59,7 +59,7 @@ answers space room =
     cases (isReached space)
     (λ r. cases (leb (length (dumpBytes space)) room)
     (λ f. let fits = leb-true (length (dumpBytes space)) room f in rw (whole-answer space room w other r fits) (written w other r fits))
-    (λ f. rw (full-answer space room w other r (leb-false (length (dumpBytes space)) room f)) full))
+    (λ f. let short = leb-false (length (dumpBytes space)) room f in rw (full-answer space room w other r short) (full w other r short)))
     (λ r. rw (unreached-answer space room w other r) (unreached other r))))
     (λ w. rw (unsound-answer space room w) (unsound w))
 
@@ -76,7 +76,7 @@ module _ (space : Space) (room : ℕ) where
   fits-by (unsound w) n e = let z : _≡_ {A = ℕ} 0 1 = cc in absurd (omega arith)
   fits-by (unscripted w p) n e = let z : _≡_ {A = ℕ} 0 1 = cc in absurd (omega arith)
   fits-by (unreached o r) n e = let z : _≡_ {A = ℕ} 0 1 = cc in absurd (omega arith)
-  fits-by full n e = let z : _≡_ {A = ℕ} 0 1 = cc in absurd (omega arith)
+  fits-by (full w o r f) n e = let z : _≡_ {A = ℕ} 0 1 = cc in absurd (omega arith)
   fits-by (written w o r f) n e = let same : n ≡ length (dumpBytes space) = cc in record { formed = w; other = o; reached = r; same = same; inside = omega arith }
 
   pub fits : (n : ℕ) → writtenOf space room ≡ Length n → Fits space room n
@@ -86,7 +86,7 @@ module _ (space : Space) (room : ℕ) where
   refused-by (unsound w) e = let z : _≡_ {A = ℕ} 0 1 = cc in absurd (omega arith)
   refused-by (unscripted w p) e = let z : _≡_ {A = ℕ} 0 1 = cc in absurd (omega arith)
   refused-by (unreached o r) e = (o, r)
-  refused-by full e = let z : _≡_ {A = ℕ} 0 1 = cc in absurd (omega arith)
+  refused-by (full w o r f) e = let z : _≡_ {A = ℕ} 0 1 = cc in absurd (omega arith)
   refused-by (written w o r f) e = let z : _≡_ {A = ℕ} 0 1 = cc in absurd (omega arith)
 
   -- 14 comes of a space that is not reached alone, of another policy than 5
@@ -97,21 +97,32 @@ module _ (space : Space) (room : ℕ) where
   unsound-by (unsound w) e = w
   unsound-by (unscripted w p) e = let z : _≡_ {A = ℕ} 0 1 = cc in absurd (omega arith)
   unsound-by (unreached o r) e = let z : _≡_ {A = ℕ} 0 1 = cc in absurd (omega arith)
-  unsound-by full e = let z : _≡_ {A = ℕ} 0 1 = cc in absurd (omega arith)
+  unsound-by (full w o r f) e = let z : _≡_ {A = ℕ} 0 1 = cc in absurd (omega arith)
   unsound-by (written w o r f) e = let z : _≡_ {A = ℕ} 0 1 = cc in absurd (omega arith)
 
   unscripted-by : {answer : Recorded} → Answers space room answer → answer ≡ Unwritten (refusal 15) → (wellFormed space ≡ true) × (space .config .policy ≡ 5)
   unscripted-by (unsound w) e = let z : _≡_ {A = ℕ} 0 1 = cc in absurd (omega arith)
   unscripted-by (unscripted w p) e = (w, p)
   unscripted-by (unreached o r) e = let z : _≡_ {A = ℕ} 0 1 = cc in absurd (omega arith)
-  unscripted-by full e = let z : _≡_ {A = ℕ} 0 1 = cc in absurd (omega arith)
+  unscripted-by (full w o r f) e = let z : _≡_ {A = ℕ} 0 1 = cc in absurd (omega arith)
   unscripted-by (written w o r f) e = let z : _≡_ {A = ℕ} 0 1 = cc in absurd (omega arith)
+
+  no-room-by : {answer : Recorded} → Answers space room answer → answer ≡ Unwritten (refusal 10)
+      → (wellFormed space ≡ true) × (space .config .policy ≡ 5 → ⊥) × (isReached space ≡ true) × (room < length (dumpBytes space))
+  no-room-by (unsound w) e = let z : _≡_ {A = ℕ} 0 1 = cc in absurd (omega arith)
+  no-room-by (unscripted w p) e = let z : _≡_ {A = ℕ} 0 1 = cc in absurd (omega arith)
+  no-room-by (unreached o r) e = let z : _≡_ {A = ℕ} 0 1 = cc in absurd (omega arith)
+  no-room-by (full w o r f) e = (w, o, r, f)
+  no-room-by (written w o r f) e = let z : _≡_ {A = ℕ} 0 1 = cc in absurd (omega arith)
 
 pub unsound-rule : UnsoundRule
 unsound-rule space room = (λ e. unsound-by space room (answers space room) e, unsound-answer space room)
 
 pub unscripted-rule : UnscriptedRule
 unscripted-rule space room = (λ e. unscripted-by space room (answers space room) e, λ p. unscripted-answer space room (p .0) (p .1))
+
+pub no-room-rule : NoRoomRule
+no-room-rule space room = (λ e. no-room-by space room (answers space room) e, λ p. full-answer space room (p .0) (p .1) (p .2) (p .3))
 
 -- ---- the buffer
 

@@ -5,7 +5,7 @@ use mathlib.Core.Logic.{_↔_, _⊎_}
 use mathlib.Core.List.{List, [], _∷_, List·Memᴰ}
 use Prim.Native.Nat.{ℕ, _≤_, _<_}
 use lib.ListN.{length, take, drop}
-use Rattle.dump.specs.Dumps.{dumpBytes, writtenOf, leftOf}
+use Rattle.dump.specs.Dumps.{dumpBytes, isReached, writtenOf, leftOf}
 use Rattle.calls.specs.Turns.{Turn}
 use Rattle.policy.specs.Listing.{isListTemplate}
 use Rattle.policy.specs.Shapes.{isWeakTemplate, isWeakEntry, isDecisionTemplate, isDecision}
@@ -125,6 +125,13 @@ UnsoundRule = (space : Space) (room : ℕ) → (writtenOf space room ≡ Unwritt
 -- 15 right after it: exactly of a well-formed space under policy 5, whatever the buffer
 abbrev pub UnscriptedRule : Type 0
 UnscriptedRule = (space : Space) (room : ℕ) → (writtenOf space room ≡ Unwritten (refusal 15)) ↔ ((wellFormed space ≡ true) × (space .config .policy ≡ 5))
+
+-- 10 last: exactly of a space that none of these is said of, and a buffer that is shorter than its script
+abbrev pub NoRoomRule : Type 0
+NoRoomRule =
+    (space : Space) (room : ℕ)
+    → (writtenOf space room ≡ Unwritten (refusal 10))
+    ↔ ((wellFormed space ≡ true) × (space .config .policy ≡ 5 → ⊥) × (isReached space ≡ true) × (room < length (dumpBytes space)))
 
 -- a buffer that was written begins with the script, and no byte behind it has changed
 pub record Stored (space : Space) (buffer : List ℕ) (n : ℕ) : Type 0 where

@@ -5,6 +5,9 @@ use crate::making::make;
 use crate::making::open;
 use crate::making::quiet_out;
 use crate::making::set_up;
+use crate::taking::begin;
+use crate::taking::hand;
+use crate::taking::take_turn;
 use crate::tuples::any_word;
 use crate::tuples::asking;
 use crate::tuples::pair;
@@ -17,6 +20,7 @@ use tuple::DEFINED;
 use tuple::FORMAL;
 use tuple::OFFSET;
 use tuple::OUT;
+use tuple::Offset;
 use tuple::PROCESS_SET;
 use tuple::RDP;
 use tuple::Tuple;
@@ -98,6 +102,33 @@ pub(crate) fn bottom() {
     decide(labels, 5, without, 1, 0, 7);
 }
 
+// A space handed in on which process 1 stands twice: it has proposed -40 and 40, process 2 has proposed 40 and process 3 -41. So 40 is proposed
+// by two of the three, and they don't bear bottom, though the oldest proposals of all three differ. These are what process 4 reads, and the
+// reply to its cas doesn't fit.
+pub(crate) fn two_offsets() {
+    let labels: &[u8] = b"\
+        two offsets, bottom\n\
+        two offsets, 40 by both\n\
+        two offsets, 4 proposes\n\
+        two offsets, 4 reads 1\n\
+        two offsets, 4 reads 2\n\
+        two offsets, 4 reads 3\n\
+        two offsets, 4 for bottom\n\
+        two offsets, 4 handed that";
+    let mut board = quiet_out(proposed(80, 81), 3, proposal(3, 82));
+    board.count = 4;
+    board.tuples[3] = proposal(1, 81);
+    decide(labels, 1, board, 1, 0, 7);
+    decide(labels, 2, board, 1, 81, 3);
+    let mut turn = begin(board, 4, Offset::Hundredths(0));
+    turn = take_turn(labels, 3, turn);
+    turn = take_turn(labels, 4, turn);
+    turn = take_turn(labels, 5, turn);
+    turn = take_turn(labels, 6, turn);
+    turn = take_turn(labels, 7, turn);
+    hand(labels, 8, turn);
+}
+
 // A cas of bottom under policy 1: it is denied on a free and on a decided round. On a space handed in that holds a decided bottom, a good cas
 // is held with it.
 pub(crate) fn weak_bottom() {
@@ -146,6 +177,47 @@ fn filled(space: Space, entry: Tuple, times: u32) -> Space {
         i += 1;
     }
     board
+}
+
+// Spaces handed in that are not well formed: whatever is called is refused 1. Such a call leaves a space as it was, so that one whose n is set
+// right obeys the next.
+pub(crate) fn not_well_formed() {
+    let labels: &[u8] = b"\
+        not well formed, 3 1\n\
+        not well formed, 3 1 and seven fields\n\
+        n set right\n\
+        not well formed, policy 6\n\
+        not well formed, 129 tuples\n\
+        not well formed, open field\n\
+        not well formed, offset above 100000\n\
+        not well formed, unused place";
+    let blank = Tuple::blank();
+    let own = proposal(1, 80);
+    let mut board = open(4, 1, 2);
+    board.config.n = 3;
+    board = make(labels, 1, board, 1, OUT, blank, own);
+    board = make(labels, 2, board, 1, OUT, blank, words(7));
+    board.config.n = 4;
+    make(labels, 3, board, 1, OUT, blank, own);
+    let mut unknown = open(4, 1, 2);
+    unknown.config.policy = 6;
+    make(labels, 4, unknown, 1, RDP, asking(), blank);
+    let mut full = filled(open(1, 0, 0), own, 128);
+    full.count = 129;
+    make(labels, 5, full, 1, RDP, asking(), blank);
+    held_first(labels, 6, asking());
+    held_first(labels, 7, pair(OFFSET, 200_002));
+    let mut dirty = open(4, 1, 2);
+    dirty.tuples[127] = own;
+    make(labels, 8, dirty, 1, RDP, asking(), blank);
+}
+
+// Makes an rdp on a space handed in that holds one tuple.
+fn held_first(labels: &[u8], number: usize, tuple: Tuple) {
+    let mut board = open(4, 1, 2);
+    board.count = 1;
+    board.tuples[0] = tuple;
+    make(labels, number, board, 1, RDP, asking(), Tuple::blank());
 }
 
 // What a slip would get wrong.

@@ -1,6 +1,9 @@
 // Lines of standard output, each with a label. The labels of a case are the lines of one text, the first with number 1.
 use libc::STDOUT_FILENO;
+use tuple::Outcome;
+use tuple::Refusal;
 use tuple::Reply;
+use tuple::Tuple;
 
 // No line is longer behind its label.
 const LINE: usize = 32;
@@ -11,6 +14,15 @@ pub(crate) fn reply_line(labels: &[u8], number: usize, reply: Reply) {
     let mut line = [b'\n'; LINE];
     let place = text::put_reply(&mut line, 0, reply);
     write_line(&line, place);
+}
+
+// A label and a refusal.
+pub(crate) fn refusal_line(labels: &[u8], number: usize, refusal: Refusal) {
+    let reply = Reply {
+        outcome: Outcome::Refused(refusal),
+        tuple: Tuple::blank(),
+    };
+    reply_line(labels, number, reply);
 }
 
 // A label and a count.

@@ -1,4 +1,5 @@
 // Opening spaces and making calls on them.
+use crate::lines::refusal_line;
 use crate::lines::reply_line;
 use crate::lines::write_label;
 use crate::tuples::asking;
@@ -10,8 +11,6 @@ use space::Space;
 use tuple::CAS;
 use tuple::Call;
 use tuple::OUT;
-use tuple::Outcome;
-use tuple::Reply;
 use tuple::Tuple;
 
 pub(crate) fn open(n: u64, t: u64, policy: u64) -> Space {
@@ -33,13 +32,7 @@ pub(crate) fn set_up(labels: &[u8], number: usize, n: u64, t: u64) {
             write_label(labels, number);
             io::write_all(STDOUT_FILENO, b" stands\n");
         }
-        Opening::Unopened(refusal) => {
-            let reply = Reply {
-                outcome: Outcome::Refused(refusal),
-                tuple: Tuple::blank(),
-            };
-            reply_line(labels, number, reply);
-        }
+        Opening::Unopened(refusal) => refusal_line(labels, number, refusal),
     }
 }
 

@@ -90,7 +90,8 @@ fn decision(seat: u32, offset: u64, seats: u64) -> Call {
 
 /// The cases, in order.
 fn cases() -> Vec<Case> {
-    vec![stray(), split(), signs(), late(), one(), full(), choices(), seventh(), pair()]
+    let default = [stray(), split(), signs(), late(), held(), bottom(), one(), full()];
+    default.into_iter().chain([choices(), seventh(), pair()]).collect()
 }
 
 fn stray() -> Case {
@@ -113,6 +114,23 @@ fn signs() -> Case {
 fn late() -> Case {
     let parts = vec![follows(5), follows(-5), Part::Follows { offset: -5, begin: 8 }, Part::Silent];
     Case { name: "late", n: 4, t: 1, k: 0, rounds: vec![Round::of(3, parts)] }
+}
+
+/// Seats 2 and 4 settle on -40 before seats 1 and 3 propose 40, which then
+/// call cas with 40 and are held -40.
+fn held() -> Case {
+    let late = || Part::Follows { offset: 40, begin: 7 };
+    let parts = vec![late(), follows(-40), late(), follows(-40)];
+    Case { name: "held", n: 4, t: 1, k: 0, rounds: vec![Round::of(0, parts)] }
+}
+
+/// The stray gets the mark decided, once three offsets are proposed. Seat 1,
+/// which then proposes what seat 2 did, calls cas with it and is held the mark.
+fn bottom() -> Case {
+    let parts = vec![Part::Follows { offset: -40, begin: 4 }, follows(-40), follows(0), Part::Strays];
+    let strays =
+        vec![decision(4, Offset::MARK, 0b0110), proposal(4, 4, 5), decision(4, Offset::MARK, 0b1110)];
+    Case { name: "bottom", n: 4, t: 1, k: 0, rounds: vec![Round { number: 0, parts, strays }] }
 }
 
 fn one() -> Case {
@@ -248,9 +266,10 @@ mod tests {
         let text = run();
         let headers: Vec<&str> =
             text.lines().filter(|line| line.starts_with(|first: char| first.is_ascii_lowercase())).collect();
-        let default = ["stray 4 1", "split 4 1", "signs 4 1", "late 4 1", "one 1 0", "full 15 4"];
+        let default = ["stray 4 1", "split 4 1", "signs 4 1", "late 4 1", "held 4 1", "bottom 4 1"];
+        let largest = ["one 1 0", "full 15 4"];
         let strong = ["choices 9 2 3", "seventh 9 2 3", "pair 15 4 2"];
-        assert_eq!(headers, [&default[..], &strong].concat());
+        assert_eq!(headers, [&default[..], &largest, &strong].concat());
         assert!(text.ends_with("\n15 decides c0 o0\n"));
     }
 
@@ -278,6 +297,36 @@ mod tests {
 4 out w1 c0 c1 o-40: refused 7
 ";
         assert_eq!(run_case(&stray()), text);
+    }
+
+    /// The lines that the proved program prints.
+    #[test]
+    fn the_stored_lines() {
+        let stored = include_str!("../../crates/rounds/stdout");
+        for (number, (line, stored)) in (1..).zip(run().lines().zip(stored.lines())) {
+            assert_eq!(line, stored, "line {number}");
+        }
+        assert_eq!(run(), stored);
+    }
+
+    #[test]
+    fn the_held_offset_is_decided_and_not_its_own() {
+        for (case, seats, own, held) in [(held(), 4, "o40 s5", "o-40"), (bottom(), 3, "o-40 s3", "o_")] {
+            let text = run_case(&case);
+            assert_eq!(text.matches(&format!(" decides c0 {held}\n")).count(), seats);
+            assert_eq!(text.matches(" decides ").count(), seats);
+            assert!(text.contains(&format!("1 cas w2 c0 o? s*, w2 c0 {own}: held w2 c0 {held} ")));
+        }
+    }
+
+    #[test]
+    fn a_stray_decides_the_mark() {
+        let text = run_case(&bottom());
+        let cas: Vec<&str> = text.lines().filter(|line| line.starts_with("4 cas")).collect();
+        let early = "4 cas w2 c0 o? s*, w2 c0 o_ s6: refused 13";
+        let decides = "4 cas w2 c0 o? s*, w2 c0 o_ s14: inserted";
+        assert_eq!(cas, [early, decides]);
+        assert_eq!(text.matches(": inserted").count(), 1);
     }
 
     #[test]

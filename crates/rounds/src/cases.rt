@@ -4,6 +4,7 @@ use crate::lines::title;
 use crate::schedule::PASSES;
 use crate::schedule::Round;
 use crate::schedule::take_passes;
+use crate::stray::Strays;
 use process::Step;
 use process::start;
 use space::Config;
@@ -25,7 +26,7 @@ pub(crate) fn run(
     round: u64,
     offsets: [i32; 8],
     passes: u32,
-    strays: u32,
+    strays: Strays,
 ) -> Round {
     let space = begin(name, n, t, k);
     let config = space.config;
@@ -43,12 +44,49 @@ pub(crate) fn late() {
         3,
         [5, -5, SILENT, SILENT, 0, 0, 0, 0],
         7,
-        0,
+        Strays::Nobody,
     );
     let space = round.space;
     let config = space.config;
     round.steps[2] = start(config, 3, 3, Offset::Hundredths(-5));
-    take_passes(round, PASSES, 0);
+    take_passes(round, PASSES, Strays::Nobody);
+}
+
+// Processes 2 and 4 have decided -40 by the sixth pass. Processes 1 and 3 start in the seventh: their cas are for 40, and they are held -40.
+pub(crate) fn held() {
+    let mut round = run(
+        b"held",
+        4,
+        1,
+        0,
+        0,
+        [SILENT, -40, SILENT, -40, 0, 0, 0, 0],
+        6,
+        Strays::Nobody,
+    );
+    let space = round.space;
+    let config = space.config;
+    round.steps[0] = start(config, 1, 0, Offset::Hundredths(40));
+    round.steps[2] = start(config, 3, 0, Offset::Hundredths(40));
+    take_passes(round, PASSES, Strays::Nobody);
+}
+
+// Process 4 is faulty, and in the third pass its cas decides bottom. Process 1 starts in the fourth: its cas is for -40, and it is held bottom.
+pub(crate) fn bottom() {
+    let mut round = run(
+        b"bottom",
+        4,
+        1,
+        0,
+        0,
+        [SILENT, -40, 0, SILENT, 0, 0, 0, 0],
+        3,
+        Strays::Decides,
+    );
+    let space = round.space;
+    let config = space.config;
+    round.steps[0] = start(config, 1, 0, Offset::Hundredths(-40));
+    take_passes(round, PASSES, Strays::Nobody);
 }
 
 // As many processes, faulty ones and rounds as there may be: at the end the space is full. All processes are correct, and in round r they
@@ -59,7 +97,7 @@ pub(crate) fn full() {
     let config = space.config;
     for round in 0..8 {
         let steps = started(config, round as u64, offsets, round + 1);
-        let ended = take_passes(Round { space, steps }, PASSES, 0);
+        let ended = take_passes(Round { space, steps }, PASSES, Strays::Nobody);
         space = ended.space;
     }
 }

@@ -5,12 +5,36 @@ mod schedule;
 mod stray;
 
 use cases::SILENT;
+use cases::bottom;
 use cases::full;
+use cases::held;
 use cases::late;
 use cases::run;
 use schedule::PASSES;
+use stray::Strays;
 
 fn main() {
+    default();
+    late();
+    held();
+    bottom();
+    // A process by itself.
+    run(
+        b"one",
+        1,
+        0,
+        0,
+        7,
+        [-40, 0, 0, 0, 0, 0, 0, 0],
+        PASSES,
+        Strays::Nobody,
+    );
+    full();
+    choices();
+}
+
+// Cases of policy 2 in which all begin at once.
+fn default() {
     // Process 4 is faulty.
     run(
         b"stray",
@@ -20,7 +44,7 @@ fn main() {
         0,
         [40, 40, -40, SILENT, 0, 0, 0, 0],
         PASSES,
-        stray::CALLS,
+        Strays::Denied,
     );
     // No offset is proposed twice.
     run(
@@ -31,7 +55,7 @@ fn main() {
         0,
         [-100_000, 0, 100_000, -1, 0, 0, 0, 0],
         PASSES,
-        0,
+        Strays::Nobody,
     );
     // Two offsets that differ in sign only.
     run(
@@ -42,13 +66,8 @@ fn main() {
         0,
         [40, -40, 40, -40, 0, 0, 0, 0],
         PASSES,
-        0,
+        Strays::Nobody,
     );
-    late();
-    // A process by itself.
-    run(b"one", 1, 0, 0, 7, [-40, 0, 0, 0, 0, 0, 0, 0], PASSES, 0);
-    full();
-    choices();
 }
 
 // The cases of policy 3.
@@ -62,7 +81,7 @@ fn choices() {
         0,
         [SILENT, 0, 1, 2, 0, 1, 2, 2],
         PASSES,
-        stray::CALLS,
+        Strays::Choices,
     );
     // They are silent, and only the seventh proposal that is found settles it.
     run(
@@ -73,8 +92,17 @@ fn choices() {
         0,
         [SILENT, 0, 1, 2, 0, 1, 2, 2],
         PASSES,
-        0,
+        Strays::Nobody,
     );
     // Fifteen, and two choices.
-    run(b"pair", 15, 4, 2, 0, [0, 1, 0, 1, 0, 1, 0, 1], PASSES, 0);
+    run(
+        b"pair",
+        15,
+        4,
+        2,
+        0,
+        [0, 1, 0, 1, 0, 1, 0, 1],
+        PASSES,
+        Strays::Nobody,
+    );
 }

@@ -1,7 +1,7 @@
 // The schedule of a round: passes over the processes in order, in which each makes at most one call.
 use crate::lines::call_line;
 use crate::lines::decision_line;
-use crate::stray;
+use crate::stray::Strays;
 use calls::Applied;
 use process::Next;
 use process::Step;
@@ -26,12 +26,13 @@ struct Turn {
 }
 
 // Takes passes, at the end of which faulty processes make their calls, one in a pass.
-pub(crate) fn take_passes(begun: Round, passes: u32, strays: u32) -> Round {
+pub(crate) fn take_passes(begun: Round, passes: u32, strays: Strays) -> Round {
+    let calls = strays.calls();
     let mut round = begun;
     for pass in 0..passes {
         round = take_pass(round);
-        if pass < strays {
-            round = stray_turn(round, pass);
+        if pass < calls {
+            round = stray_turn(round, strays.call(pass));
         }
     }
     round
@@ -70,10 +71,10 @@ fn take_turn(space: Space, step: Step) -> Turn {
     }
 }
 
-fn stray_turn(round: Round, pass: u32) -> Round {
+fn stray_turn(round: Round, call: Call) -> Round {
     let space = round.space;
     let steps = round.steps;
-    let applied = make(space, stray::call(space.config.policy, pass));
+    let applied = make(space, call);
     let left = applied.space;
     Round { space: left, steps }
 }

@@ -1,5 +1,5 @@
-// The fixed calls of faulty processes in round 0, one for each pass: of process 4 under policy 2, and of 1 and 9 under policy 3. -40 has the code
-// 80, 40 the code 81, and the choices 0, 1 and 2 have the codes 1, 3 and 5.
+// The fixed calls of faulty processes in round 0, one for each pass. -40 has the code 80, 40 the code 81, 5 the code 11, and the choices 0, 1 and 2
+// have the codes 1, 3 and 5.
 use tuple::CAS;
 use tuple::COUNT;
 use tuple::Call;
@@ -15,23 +15,53 @@ use tuple::Tuple;
 use tuple::WILDCARD;
 use tuple::WORD;
 
-pub(crate) const CALLS: u32 = 4;
+// Which faulty processes there are in a case.
+pub(crate) enum Strays {
+    Nobody,
+    // Process 4 among correct ones, under policy 2.
+    Denied,
+    // Process 4, under policy 2, which gets bottom decided.
+    Decides,
+    // Processes 1 and 9, under policy 3.
+    Choices,
+}
 
-pub(crate) fn call(policy: u64, pass: u32) -> Call {
-    if policy == 3 {
-        choice_call(pass)
-    } else {
-        default_call(pass)
+impl Strays {
+    // How many calls they make.
+    pub(crate) fn calls(self) -> u32 {
+        match self {
+            Strays::Nobody => 0,
+            Strays::Decides => 3,
+            _ => 4,
+        }
+    }
+
+    // The call that they make at the end of a pass.
+    pub(crate) fn call(self, pass: u32) -> Call {
+        match self {
+            Strays::Choices => choice_call(pass),
+            Strays::Decides => bottom_call(pass),
+            _ => denied_call(pass),
+        }
     }
 }
 
 // Its own proposal, a second one, a decision that process 1 does not back, and a proposal for process 1.
-fn default_call(pass: u32) -> Call {
+fn denied_call(pass: u32) -> Call {
     match pass {
         0 => propose(4, 4, 80),
         1 => propose(4, 4, 81),
         2 => decide(4, 80, 9),
         _ => propose(4, 1, 80),
+    }
+}
+
+// Bottom with the two processes that have proposed, its own proposal, and bottom with all three.
+fn bottom_call(pass: u32) -> Call {
+    match pass {
+        0 => decide(4, 0, 6),
+        1 => propose(4, 4, 11),
+        _ => decide(4, 0, 14),
     }
 }
 

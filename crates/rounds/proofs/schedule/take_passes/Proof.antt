@@ -6,16 +6,22 @@ use Rattle.rounds.proofs.schedule.take_passes.Statement.{statement}
 use Rattle.rounds.proofs.schedule.take_passes.Tie as tie
 
 abbrev Inv-loop : tie.InvT-loop
-Inv-loop passes strays round₀ pass₀ round pass = pass ≤ passes
+Inv-loop passes strays calls round₀ pass₀ round pass = pass ≤ passes
 
 abbrev μ-loop : tie.MeasureT-loop
-μ-loop passes strays round₀ pass₀ round pass = passes - pass
+μ-loop passes strays calls round₀ pass₀ round pass = passes - pass
+
+calls-requires : tie.Need-calls-requires Inv-loop μ-loop
+calls-requires c κs = search needs
 
 loop-holds : tie.Need-loop-holds Inv-loop μ-loop
 loop-holds c = omega arith
 
 take-pass-requires : tie.Need-take-pass-requires Inv-loop μ-loop
 take-pass-requires c κs = search needs
+
+call-requires : tie.Need-call-requires Inv-loop μ-loop
+call-requires c κs = search needs
 
 stray-turn-requires : tie.Need-stray-turn-requires Inv-loop μ-loop
 stray-turn-requires c κs = search needs
@@ -38,8 +44,10 @@ take-passes-spec =
     (tie.spec
     Inv-loop
     μ-loop
+    calls-requires
     loop-holds
     take-pass-requires
+    call-requires
     stray-turn-requires
     add-pass
     loop-less

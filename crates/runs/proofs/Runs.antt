@@ -18,7 +18,7 @@ run-theorem config calls safe =
       validity = validity safe (logged config calls safe);
       unanimity = unanimity safe (logged config calls safe);
       promptness = λ before within behind split process round correct own done enough many.
-          promptness safe calls before within behind split process round correct own done enough (omega (arith, many));
+          promptness safe calls before within behind split process round correct own done (omega (arith, enough)) (omega (arith, many));
     }
 
 pub firm : Firm

@@ -1,4 +1,3 @@
-pub mod CutLaws
 pub mod Edge
 mod FieldsLaws
 mod HeadLaws
@@ -6,6 +5,7 @@ pub mod Length
 pub mod NumberLaws
 pub mod OnlyForm
 pub mod ReadBack
+pub mod RecordCut
 pub mod RecordOrder
 pub mod Steps
 pub mod WriteRules

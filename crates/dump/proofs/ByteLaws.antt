@@ -16,7 +16,7 @@ use Rattle.tuple.specs.declared.field.Field.{Field}
 use Rattle.tuple.specs.declared.field.Tuple.{Tuple}
 use Rattle.tuple.specs.declared.field.Call.{Call}
 use Rattle.tuple.specs.Faults.{isDefined, fieldsFault, partFault, usesTemplate, callFault}
-use Rattle.tuple.proofs.NoFault.{known-head, SoundField, fields-sound, tuple-sound, call-sound}
+use Rattle.tuple.proofs.NoFault.{known-head, PassedField, fields-sound, tuple-sound, call-sound}
 use Rattle.varint.specs.Reading.{Bytes, largest}
 use Rattle.varint.specs.Writing.{groupsOf, bytesOf}
 use Rattle.varint.proofs.ReadingLaws.{picked}
@@ -50,7 +50,7 @@ number-bytes value small = groups-bytes 9 value (omega arith)
 
 -- ---- records
 
-field-bytes : {entry : Bool} {field : Field} → SoundField entry field → Bytes (fieldBytes field)
+field-bytes : {entry : Bool} {field : Field} → PassedField entry field → Bytes (fieldBytes field)
 unfolding fieldBytes
 field-bytes {field = field} sound =
     let known = known-head field (sound .known) in

@@ -38,7 +38,7 @@ use Rattle.tuple.specs.Faults.{isDefined, fieldsFault, tupleFault, partFault, u
 use Rattle.tuple.specs.Fields.{word, count, offset, processSet, defined, wildcard, formal, decision, listing, out, cas, largestOf, blankField}
 use Rattle.tuple.specs.Shapes.{field, is, says}
 use Rattle.tuple.proofs.FieldLaws.{kind-state}
-use Rattle.tuple.proofs.NoFault.{SoundField, fields-sound, tuple-sound, call-sound}
+use Rattle.tuple.proofs.NoFault.{PassedField, fields-sound, tuple-sound, call-sound}
 use Rattle.varint.specs.Writing.{bytesOf, widthOf}
 use Rattle.varint.proofs.WritingLaws.{bytes-last, bytes-step}
 
@@ -106,7 +106,7 @@ bare-length kind state f h low some high =
     ap length (sym (bytes-bare f none)) ∙ width-one (headNumber f) (omega arith)
 
 sound-at : (entry : Bool) (n : ℕ) (fields : List Field) (i : ℕ) → fieldsFault entry (take n fields) ≡ Absent → i < n → i < length fields
-    → SoundField entry (getD fields i blankField)
+    → PassedField entry (getD fields i blankField)
 sound-at entry zero fields i h below inside = absurd (omega arith)
 sound-at entry (suc n) [] i h below inside = absurd (omega arith)
 sound-at entry (suc n) (f ∷ fields) zero h below inside = fields-sound entry f (take n fields) h .0
@@ -220,7 +220,7 @@ list-tuple-most tuple long h shape low short =
     let parts = list-parts tuple shape in
     let counted = parts .counted in
     let sound = tuple-sound true tuple h in
-    let at : (i : ℕ) → i < 5 → SoundField true (field tuple i) = λ i below. sound-at true (tuple .count) (tuple .fields) i (sound .fields) (omega arith) (omega arith) in
+    let at : (i : ℕ) → i < 5 → PassedField true (field tuple i) = λ i below. sound-at true (tuple .count) (tuple .fields) i (sound .fields) (omega arith) (omega arith) in
     let head = kind-state offset defined (field tuple 4) (parts .shift) in
     let here : isDefined (field tuple 4) ≡ true = rw (head .1) refl in
     let code : shiftCode tuple ≤ largestCode = rw (head .0) at (at 4 (omega arith) .small here) in

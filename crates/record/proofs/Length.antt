@@ -9,7 +9,7 @@ use Rattle.record.specs.Heads.{headNumber}
 use Rattle.record.specs.Writing.{fieldBytes, fieldsBytes, tupleBytes, partBytes, callBytes}
 use Rattle.record.specs.Laws.{AtMost, Attained}
 use Rattle.record.proofs.NumberLaws.{kind-most}
-use Rattle.tuple.proofs.NoFault.{known-head, SoundField, fields-sound, tuple-sound, call-sound}
+use Rattle.tuple.proofs.NoFault.{known-head, PassedField, fields-sound, tuple-sound, call-sound}
 use Rattle.varint.proofs.ReadingLaws.{picked}
 use Rattle.tuple.specs.declared.fault.Fault.the-variants.{Absent}
 use Rattle.tuple.specs.declared.field.Field.{Field}
@@ -26,7 +26,7 @@ pub width-one : (value : ℕ) → value < 128 → widthOf value ≡ 1
 width-one value h = ap length (bytes-last value h)
 
 -- a head of one byte, and a value of at most five
-pub field-most : {entry : Bool} {field : Field} → SoundField entry field → length (fieldBytes field) ≤ 6
+pub field-most : {entry : Bool} {field : Field} → PassedField entry field → length (fieldBytes field) ≤ 6
 unfolding fieldBytes
 field-most {field = field} sound =
     let known = known-head field (sound .known) in

@@ -22,7 +22,7 @@ use Rattle.record.specs.Writing.{fieldBytes, fieldsBytes, tupleBytes, pa
 use Rattle.record.specs.Laws.{Read, OnlyForm, OnlyOne}
 use Rattle.record.proofs.HeadLaws.{Says, head-says}
 use Rattle.varint.proofs.ReadingLaws.{picked}
-use Rattle.tuple.proofs.NoFault.{between, SoundPart}
+use Rattle.tuple.proofs.NoFault.{between, PassedPart}
 use Rattle.tuple.specs.declared.fault.Fault.the-variants.{Absent}
 use Rattle.tuple.specs.declared.field.Field.{Field}
 use Rattle.tuple.specs.declared.field.Tuple.{Tuple}
@@ -92,7 +92,7 @@ record FieldsRead (entry : Bool) (count : ℕ) (s : List ℕ) (at : ℕ) (fields
 record PartRead (used entry : Bool) (s : List ℕ) (at : ℕ) (tuple : Tuple) (next : ℕ) : Type 0 where
   took : Took s at next (partBytes used tuple)
   six : length (tuple .fields) ≡ places
-  sound : SoundPart used entry tuple
+  sound : PassedPart used entry tuple
 
 abbrev NumberForm : List ℕ → ℕ → ReadNumber → Type 0
 NumberForm s at read = Reads (NumberRead s at (read .value)) (read .next)

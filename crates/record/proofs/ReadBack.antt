@@ -21,7 +21,7 @@ use Rattle.record.specs.Laws.{ReadBack, WrittenBack}
 use Rattle.record.proofs.HeadLaws.{head-of}
 use Rattle.record.proofs.NumberLaws.{kind-most}
 use Rattle.tuple.proofs.Blanks.{rest-blank, blank-tuple}
-use Rattle.tuple.proofs.NoFault.{known-head, SoundField, fields-sound, tuple-sound, SoundPart, call-sound}
+use Rattle.tuple.proofs.NoFault.{known-head, PassedField, fields-sound, tuple-sound, PassedPart, call-sound}
 use Rattle.tuple.specs.declared.fault.Fault.{Fault}
 use Rattle.tuple.specs.declared.fault.Fault.the-variants.{Absent, Present}
 use Rattle.tuple.specs.declared.field.Field.{Field}
@@ -54,7 +54,7 @@ unfolding valueAt
 value-back kind value s rest at h e =
     rw (number-back s rest at value (omega (arith, kind-most kind)) e, le-leb value (largestOf kind) h)
 
-module _ (entry : Bool) (field : Field) (sound : SoundField entry field) (blank : placeBlank field true ≡ true) where
+module _ (entry : Bool) (field : Field) (sound : PassedField entry field) (blank : placeBlank field true ≡ true) where
   head-step-back : (s rest : List ℕ) (at : ℕ) → drop at s ≡ cond (isDefined field) (bytesOf (field .value)) [] ++ rest
       → headStep entry s at (Known (field .kind) (field .state))
       ≡ record { next = place (at + length (cond (isDefined field) (bytesOf (field .value)) [])); field = field }
@@ -113,7 +113,7 @@ tuple-back entry tuple six h blank s rest at e =
 
 -- ---- the call
 
-part-back : (used entry : Bool) (tuple : Tuple) → length (tuple .fields) ≡ places → SoundPart used entry tuple
+part-back : (used entry : Bool) (tuple : Tuple) → length (tuple .fields) ≡ places → PassedPart used entry tuple
     → (s rest : List ℕ) (at : ℕ) → drop at s ≡ partBytes used tuple ++ rest
     → partAt used entry s at ≡ record { next = place (at + length (partBytes used tuple)); tuple = tuple }
 unfolding partFault restBlank partAt partBytes

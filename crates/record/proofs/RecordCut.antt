@@ -30,7 +30,7 @@ use Rattle.tuple.specs.Bounds.{places}
 use Rattle.tuple.specs.Fields.{blankField}
 use Rattle.tuple.specs.Refusals.{refusal}
 use Rattle.tuple.specs.Faults.{first, isDefined, fieldFault, fieldsFault, tupleFault, partFault, usesTemplate, usesEntry, usedFault}
-use Rattle.tuple.proofs.NoFault.{between, unless-absent, first-absent, known-head, SoundField, field-sound, fields-sound, tuple-sound}
+use Rattle.tuple.proofs.NoFault.{between, unless-absent, first-absent, known-head, PassedField, field-sound, fields-sound, tuple-sound}
 use Rattle.varint.specs.declared.Number.{Number}
 use Rattle.varint.specs.declared.Number.the-variants.{Value, Cut as Ends, Overlong}
 use Rattle.varint.specs.Reading.{largest, numberRefusal, numberAt}
@@ -66,7 +66,7 @@ number-cut s at value n h below e = cut-step (numberAt s at) (read-cut s at valu
 
 -- ---- a field
 
-module _ (entry : Bool) (f : Field) (sound : SoundField entry f) where
+module _ (entry : Bool) (f : Field) (sound : PassedField entry f) where
   value-cut : (s : List ℕ) (at n : ℕ) → n < length (valueBytes f) → drop at s ≡ take n (valueBytes f) → headStep entry s at (Known (f .kind) (f .state)) .next ≡ Refused Cut
   unfolding valueAt
   value-cut s at n below e =
@@ -87,7 +87,7 @@ module _ (entry : Bool) (f : Field) (sound : SoundField entry f) where
       (value-cut s (at + length head) (n - length head) inside behind))
 
 -- a sound field can be said
-field-said : {entry : Bool} {f : Field} → SoundField entry f → Sayable f
+field-said : {entry : Bool} {f : Field} → PassedField entry f → Sayable f
 field-said {f = f} sound = let known = known-head f (sound .known) in record { kind = omega (arith, known .0); state = omega (arith, known .1) }
 
 -- ---- a tuple

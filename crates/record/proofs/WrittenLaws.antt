@@ -12,7 +12,7 @@ use Rattle.record.specs.Heads.{headNumber}
 use Rattle.record.specs.Writing.{fieldBytes, fieldsBytes, tupleBytes, partBytes, callBytes, roomStep, writtenOf, bufferStep, leftOf}
 use Rattle.record.specs.Private.{WritableField, WritablePart, WritableCall}
 use Rattle.record.proofs.NumberLaws.{kind-most}
-use Rattle.tuple.proofs.NoFault.{fields-sound, tuple-sound, SoundPart, call-sound}
+use Rattle.tuple.proofs.NoFault.{fields-sound, tuple-sound, PassedPart, call-sound}
 use Rattle.varint.proofs.ReadingLaws.{picked}
 use Rattle.tuple.specs.declared.fault.Fault.the-variants.{Absent, Present}
 use Rattle.tuple.specs.declared.field.Field.{Field}
@@ -120,7 +120,7 @@ fields-writable entry (field ∷ fields) h zero d =
     omega (arith, sound .small d, kind-most (field .kind))
 fields-writable entry (field ∷ fields) h (suc i) d = fields-writable entry fields (fields-sound entry field fields h .1) i d
 
-part-writable : (used entry : Bool) (tuple : Tuple) → SoundPart used entry tuple → WritablePart used tuple
+part-writable : (used entry : Bool) (tuple : Tuple) → PassedPart used entry tuple → WritablePart used tuple
 unfolding partFault
 part-writable true entry tuple sound e =
     let counted = tuple-sound entry tuple (sound .fault) in

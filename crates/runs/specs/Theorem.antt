@@ -8,7 +8,6 @@ use Rattle.runs.specs.Correct.{Correct, correct, amount}
 use Rattle.runs.specs.Decisions.{Decision, DoneProposal, hasDoneProposal, GivenOut, HasDecided, callsOf}
 use Rattle.space.specs.declared.config.Config.{Config}
 use Rattle.space.specs.declared.space.Space.{Space}
-use Rattle.space.specs.Bounds.{processes}
 use Rattle.calls.specs.Turns.{last, Turn, applied, turnsFrom, turns}
 use Rattle.tuple.specs.declared.field.Call.{Call}
 use Rattle.tuple.specs.declared.offset.Offset.{Offset}
@@ -24,7 +23,7 @@ pub data Needs (config : Config) : Type 0 where
 -- a sound configuration under one of these
 pub record SoundConfig (config : Config) : Type 0 where
   pub some : 1 ≤ config .n
-  pub most : config .n ≤ processes
+  pub most : config .n ≤ 15
   pub policy : Needs config
 
 -- of the processes 1 to n at most t are faulty, that is, not correct

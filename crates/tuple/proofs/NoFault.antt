@@ -1,4 +1,5 @@
--- What a field, a tuple and a call without fault are: each test that their faults are made of passed. From the definitions of faults alone.
+-- What a field, a tuple and a call without fault are: each test that their faults are made of passed (`FaultLaws` says what that means, in numbers). From the
+-- definitions of faults alone.
 use mathlib.Core.Path.{_≡_, refl}
 use Prim.Native.Nat.{ℕ, zero, suc, _≤_, _<_}
 use native.Mathlib.Omega.{arith}
@@ -41,12 +42,12 @@ known-head field h =
     let tests = and-eq-true-iff (leb word (field .kind) && leb (field .kind) processSet) (leb (field .state) formal) .0 h in
     (between word (field .kind) processSet (tests .0) .1, leb-true (field .state) formal (tests .1))
 
-pub record SoundField (entry : Bool) (field : Field) : Type 0 where
+pub record PassedField (entry : Bool) (field : Field) : Type 0 where
   pub known : knownHead field ≡ true
   pub shaped : isDefined field ≡ false → entry ≡ false
   pub small : isDefined field ≡ true → field .value ≤ largestOf (field .kind)
 
-pub field-sound : (entry : Bool) (field : Field) → fieldFault entry field ≡ Absent → SoundField entry field
+pub field-sound : (entry : Bool) (field : Field) → fieldFault entry field ≡ Absent → PassedField entry field
 unfolding fieldFault
 field-sound entry field h =
     let known = unless-absent (knownHead field) Unknown _ h in
@@ -61,17 +62,17 @@ field-sound entry field h =
 -- ---- the fields of a tuple
 
 pub fields-sound : (entry : Bool) (field : Field) (fields : List Field) → fieldsFault entry (field ∷ fields) ≡ Absent
-    → SoundField entry field × (fieldsFault entry fields ≡ Absent)
+    → PassedField entry field × (fieldsFault entry fields ≡ Absent)
 unfolding fieldsFault
 fields-sound entry field fields h =
     let parts = first-absent (fieldFault entry field) (fieldsFault entry fields) h in (field-sound entry field (parts .0), parts .1)
 
-pub record SoundTuple (entry : Bool) (tuple : Tuple) : Type 0 where
+pub record PassedTuple (entry : Bool) (tuple : Tuple) : Type 0 where
   pub some : 1 ≤ tuple .count
   pub few : tuple .count ≤ places
   pub fields : fieldsFault entry (take (tuple .count) (tuple .fields)) ≡ Absent
 
-pub tuple-sound : (entry : Bool) (tuple : Tuple) → tupleFault entry tuple ≡ Absent → SoundTuple entry tuple
+pub tuple-sound : (entry : Bool) (tuple : Tuple) → tupleFault entry tuple ≡ Absent → PassedTuple entry tuple
 unfolding tupleFault
 tuple-sound entry tuple h =
     let counted = unless-absent (leb 1 (tuple .count) && leb (tuple .count) places) Misshapen _ h in
@@ -103,17 +104,17 @@ entry-small tuple i entry below d =
 -- ---- the call
 
 -- a part of a call, used or not
-pub record SoundPart (used entry : Bool) (tuple : Tuple) : Type 0 where
+pub record PassedPart (used entry : Bool) (tuple : Tuple) : Type 0 where
   pub fault : partFault tuple used entry ≡ Absent
   pub rest : restBlank tuple used ≡ true
 
-pub record SoundCall (call : Call) : Type 0 where
+pub record PassedCall (call : Call) : Type 0 where
   pub low : out ≤ call .code
   pub high : call .code ≤ cas
-  pub template : SoundPart (usesTemplate (call .code)) false (call .template)
-  pub entry : SoundPart (usesEntry (call .code)) true (call .entry)
+  pub template : PassedPart (usesTemplate (call .code)) false (call .template)
+  pub entry : PassedPart (usesEntry (call .code)) true (call .entry)
 
-pub call-sound : (call : Call) → callFault call ≡ Absent → SoundCall call
+pub call-sound : (call : Call) → callFault call ≡ Absent → PassedCall call
 unfolding callFault usedFault
 call-sound call h =
     let template = usesTemplate (call .code) in

@@ -4,16 +4,16 @@
 //! and while the announcement of that one waits, nothing else is listed there,
 //! whoever calls.
 
-use crate::board::{Board, Config};
+use crate::config::Config;
 use crate::fields::{Field, Kind, Tuple, ANNOUNCED};
 use crate::list;
 use crate::records::Call;
 
 /// Whether an out is permitted: of an announcement of the caller's own number,
 /// while none of its own stands. Its serial may be listed already.
-pub(crate) fn permits_out(board: &Board, call: &Call) -> bool {
+pub(crate) fn permits_out(held: &[Tuple], call: &Call) -> bool {
     let own = u64::from(call.process);
-    call.entry.as_announcement().is_some_and(|(seat, _, _)| seat == own) && oldest(board, own).is_none()
+    call.entry.as_announcement().is_some_and(|(seat, _, _)| seat == own) && oldest(held, own).is_none()
 }
 
 /// Whether an inp is permitted: with the template (word 4, the caller's own
@@ -30,11 +30,11 @@ pub(crate) fn permits_inp(call: &Call) -> bool {
 
 /// Whether a cas is permitted: an entry that fits the list and is what is owed
 /// at its position; where nothing is, of the caller's own number.
-pub(crate) fn permits_cas(board: &Board, call: &Call) -> bool {
-    let Some((position, seat, serial, shift)) = list::fitting_entry(board, call) else {
+pub(crate) fn permits_cas(config: &Config, held: &[Tuple], call: &Call) -> bool {
+    let Some((position, seat, serial, shift)) = list::fitting_entry(held, call) else {
         return false;
     };
-    match owed(board, position) {
+    match owed(config, held, position) {
         Some(owed) => owed == (seat, serial, shift),
         None => seat == u64::from(call.process),
     }
@@ -42,9 +42,9 @@ pub(crate) fn permits_cas(board: &Board, call: &Call) -> bool {
 
 /// What is owed at a position: the preferred seat's oldest announcement, if its
 /// seat and serial are not listed.
-fn owed(board: &Board, position: u64) -> Option<(u64, u64, u64)> {
-    let announced = oldest(board, preferred_seat(&board.config, position));
-    announced.filter(|(seat, serial, _)| !list::is_listed(board, *seat, *serial))
+fn owed(config: &Config, held: &[Tuple], position: u64) -> Option<(u64, u64, u64)> {
+    let announced = oldest(held, preferred_seat(config, position));
+    announced.filter(|(seat, serial, _)| !list::is_listed(held, *seat, *serial))
 }
 
 /// The seat that is preferred at a position: the remainder of position by n, and
@@ -57,17 +57,17 @@ fn preferred_seat(config: &Config, position: u64) -> u64 {
 }
 
 /// Seat, serial and shift of a seat's oldest announcement.
-fn oldest(board: &Board, seat: u64) -> Option<(u64, u64, u64)> {
-    board.held().iter().filter_map(Tuple::as_announcement).find(|(own, _, _)| *own == seat)
+fn oldest(held: &[Tuple], seat: u64) -> Option<(u64, u64, u64)> {
+    held.iter().filter_map(Tuple::as_announcement).find(|(own, _, _)| *own == seat)
 }
 
 #[cfg(test)]
 mod tests {
     use super::*;
-    use crate::board::{Answer, MOST_TUPLES};
+    use crate::board::{Answer, Board, MOST_TUPLES};
+    use crate::config::WAIT_FREE;
     use crate::fields::LISTED;
     use crate::numbers::Offset;
-    use crate::policy::WAIT_FREE;
     use crate::refusal::Refusal;
 
     const DENIED: Result<Answer, Refusal> = Err(Refusal::Denied);

@@ -1,70 +1,13 @@
-//! The board: set-up, well-formedness, the four calls (01, "Calls"; 02, 2.1, 2.6
-//! and 2.7, for the set-ups of policies 3 to 5).
+//! The board: well-formedness, the four calls (01, "Calls").
 
-use std::ops::RangeInclusive;
-
-use crate::fields::{Tuple, MOST_SEATS};
-use crate::numbers::Offset;
-use crate::policy::{self, BARE, DEFAULT, LIST, STRONG, WAIT_FREE};
+use crate::config::Config;
+use crate::fields::Tuple;
+use crate::policy;
 use crate::records::{Call, Code};
 use crate::refusal::Refusal;
 
 /// Most tuples a board holds.
 pub const MOST_TUPLES: usize = 128;
-
-/// How many choices there may be under policy 3.
-pub const CHOICES: RangeInclusive<u64> = 2..=8;
-
-/// A set-up as a plain value that can hold anything.
-#[derive(Clone, Copy, Debug, Default, PartialEq, Eq, Hash)]
-pub struct Config {
-    /// How many seats there are.
-    pub n: u64,
-    /// How many of them may stray.
-    pub t: u64,
-    /// The policy's number.
-    pub policy: u64,
-    /// How many choices there are under policy 3; 0 under the others.
-    pub k: u64,
-}
-
-impl Config {
-    /// Refused 1 unless n is 1 to 15, and under policy 3 k is 2 to 8 and n at
-    /// least (k + 1)t + 1, under the policies 0 to 2, 4 and 5 k is 0 and n at
-    /// least 3t + 1.
-    pub fn check(&self) -> Result<(), Refusal> {
-        let times = match self.policy {
-            STRONG if CHOICES.contains(&self.k) => self.k + 1,
-            BARE..=DEFAULT | LIST | WAIT_FREE if self.k == 0 => 3,
-            _ => return Err(Refusal::Unsound),
-        };
-        // n >= times * t + 1 without a sum or product that wraps: t <= (n - 1) / times.
-        let sound = (1..=MOST_SEATS).contains(&self.n) && self.t <= (self.n - 1) / times;
-        sound.then_some(()).ok_or(Refusal::Unsound)
-    }
-
-    /// Whether this is a seat from 1 to n.
-    pub fn has_seat(&self, seat: u64) -> bool {
-        (1..=self.n).contains(&seat)
-    }
-
-    /// Whether a seat may propose the offset with this travelling number: under
-    /// policy 3 the offsets 0 to k - 1, else all in range, and never the mark.
-    pub fn may_propose(&self, offset: u64) -> bool {
-        match Offset::from_travelling(offset) {
-            Some(Offset::Number(z)) => {
-                self.policy != STRONG || u64::try_from(z).is_ok_and(|choice| choice < self.k)
-            }
-            Some(Offset::Mark) | None => false,
-        }
-    }
-
-    /// Whether a decision may have the offset with this travelling number: what
-    /// may be proposed, and the mark except under policy 3.
-    pub fn may_decide(&self, offset: u64) -> bool {
-        self.may_propose(offset) || (self.policy != STRONG && offset == Offset::MARK)
-    }
-}
 
 /// What a call is answered with.
 #[derive(Clone, Copy, Debug, PartialEq, Eq, Hash)]
@@ -160,7 +103,7 @@ impl Board {
         if !self.config.has_seat(call.process.into()) {
             return Err(Refusal::Seat);
         }
-        policy::check(self, code, call)?;
+        policy::check(&self.config, self.held(), code, call)?;
         match code {
             Code::Out => self.append(&call.entry).map(|()| Answer::DONE),
             Code::Rdp => Ok(match self.oldest(&call.template) {
@@ -233,72 +176,6 @@ mod tests {
             assert_eq!(*board, before);
         }
         answer
-    }
-
-    #[test]
-    fn set_ups() {
-        for (n, t) in [(4, 1), (1, 0), (15, 4), (15, 0), (7, 2), (6, 1)] {
-            for policy in [0, 1, 2, 4, 5] {
-                assert!(Board::fresh(config(n, t, policy)).is_ok());
-                for k in [1, 2, 3, 8, u64::MAX] {
-                    assert_eq!(Board::fresh(Config { k, ..config(n, t, policy) }), Err(Unsound));
-                }
-            }
-            for (policy, k) in [(3, 0), (6, 0), (6, 2), (u64::MAX, 0), (u64::MAX, 2)] {
-                assert_eq!(Board::fresh(Config { k, ..config(n, t, policy) }), Err(Unsound));
-            }
-        }
-        // 3t + 1 wraps to small numbers for the last few.
-        let third = u64::MAX / 3;
-        let wrapping = [third, third + 1, u64::MAX, 1 << 63];
-        for policy in [0, 4, 5] {
-            for (n, t) in [(0, 0), (16, 0), (16, 5), (3, 1), (15, 5), (u64::MAX, 0)] {
-                assert_eq!(config(n, t, policy).check(), Err(Unsound));
-            }
-            for t in wrapping {
-                assert_eq!(config(15, t, policy).check(), Err(Unsound));
-            }
-        }
-        assert_eq!(config(4, 0, u64::MAX).check(), Err(Unsound));
-    }
-
-    #[test]
-    fn set_ups_among_choices() {
-        // The least n for each k and t, and one seat fewer.
-        for k in 2..=8 {
-            for t in 0..=(MOST_SEATS - 1) / (k + 1) {
-                let least = (k + 1) * t + 1;
-                assert_eq!(strong(least, t, k).check(), Ok(()));
-                assert_eq!(strong(MOST_SEATS, t, k).check(), Ok(()));
-                assert_eq!(strong(least - 1, t, k).check(), Err(Unsound));
-                assert_eq!(strong(MOST_SEATS + 1, t, k).check(), Err(Unsound));
-            }
-            // (k + 1)t + 1 wraps to small numbers for the first two.
-            let part = u64::MAX / (k + 1) + 1;
-            for t in [part, 2 * part, (MOST_SEATS - 1) / (k + 1) + 1, u64::MAX] {
-                assert_eq!(strong(MOST_SEATS, t, k).check(), Err(Unsound), "{t} {k}");
-            }
-        }
-        for k in [0, 1, 9, u64::from(u32::MAX), u64::MAX - 1, u64::MAX] {
-            for t in [0, 1, 4, u64::MAX] {
-                assert_eq!(strong(MOST_SEATS, t, k).check(), Err(Unsound), "{t} {k}");
-            }
-        }
-    }
-
-    #[test]
-    fn what_may_be_proposed_and_decided() {
-        for offset in (0..20).chain([200_000, 200_001, 200_002, u64::MAX]) {
-            let number = (1..=200_001).contains(&offset);
-            assert_eq!(config(4, 1, 2).may_propose(offset), number);
-            assert_eq!(config(4, 1, 2).may_decide(offset), number || offset == 0);
-            for k in 2..=8 {
-                // 0 to k - 1 travel as the odd numbers below 2k.
-                let choice = offset % 2 == 1 && offset < 2 * k;
-                assert_eq!(strong(15, 1, k).may_propose(offset), choice);
-                assert_eq!(strong(15, 1, k).may_decide(offset), choice);
-            }
-        }
     }
 
     #[test]

@@ -1,9 +1,9 @@
 //! A board written back as a script (02, 2.4, 2.6 and 2.7).
 
-use crate::board::{AnswerKind, Board, Config, MOST_TUPLES};
+use crate::board::{AnswerKind, Board, MOST_TUPLES};
+use crate::config::{Config, BARE, LIST, STRONG, WAIT_FREE, WEAK};
 use crate::fields::{Field, Kind, Tuple, DECISION, MOST_FIELDS};
 use crate::numbers::{write_number, LONGEST_NUMBER};
-use crate::policy::{BARE, LIST, STRONG, WAIT_FREE, WEAK};
 use crate::records::{record_of, Call};
 use crate::refusal::Refusal;
 

@@ -1,6 +1,7 @@
 //! Values of this crate as the numbers and structs that cross to the proved library.
 
-use crate::board::{Answer, AnswerKind, Board, Config};
+use crate::board::{Answer, AnswerKind, Board};
+use crate::config::Config;
 use crate::fields::{Field, Tuple};
 use crate::numbers::Offset;
 use crate::records::Call;

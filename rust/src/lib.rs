@@ -1,7 +1,7 @@
 //! The shared offset board of document 01 with requests 2.1 to 2.4, 2.6 and 2.7
 //! of document 02, read independently and written plainly: safe Rust, std only.
-//! Records and matching lie below the board and policies, which lie below the
-//! seat procedure and the program.
+//! Records and matching lie below policies and board, which lie below the seat
+//! procedure and the program.
 //!
 //! `sys` and `flat` stand apart: they reach the proved library, for the tests
 //! that compare the two (tests/compare.rs, lists.rs and together.rs) and for
@@ -15,13 +15,15 @@ pub mod fields;
 
 pub mod records;
 
-pub mod board;
-
-pub mod policy;
+pub mod config;
 
 pub mod list;
 
 pub mod announcements;
+
+pub mod policy;
+
+pub mod board;
 
 pub mod seat;
 
@@ -37,7 +39,8 @@ pub mod sys;
 
 pub mod flat;
 
-pub use board::{Answer, AnswerKind, Board, Config};
+pub use board::{Answer, AnswerKind, Board};
+pub use config::Config;
 pub use fields::{Field, Kind, Role, State, Tuple};
 pub use numbers::Offset;
 pub use records::{Call, Code};

@@ -5,7 +5,6 @@
 //! shift: also one that no run makes lists its seat and serial, and lets the
 //! next position be filled.
 
-use crate::board::Board;
 use crate::fields::Tuple;
 use crate::numbers::Offset;
 use crate::records::Call;
@@ -15,44 +14,44 @@ pub const LAST_POSITION: u64 = 112;
 
 /// Whether policy 4 permits a cas: an entry that fits, of the caller's own
 /// number.
-pub(crate) fn permits(board: &Board, call: &Call) -> bool {
-    fitting_entry(board, call).is_some_and(|(_, seat, _, _)| seat == u64::from(call.process))
+pub(crate) fn permits(held: &[Tuple], call: &Call) -> bool {
+    fitting_entry(held, call).is_some_and(|(_, seat, _, _)| seat == u64::from(call.process))
 }
 
 /// Position, seat, serial and shift of a cas's entry, if it fits the list: at
 /// the position that the template asks for, the first or one behind another,
 /// with a shift other than the mark, and not listed yet.
-pub(crate) fn fitting_entry(board: &Board, call: &Call) -> Option<(u64, u64, u64, u64)> {
+pub(crate) fn fitting_entry(held: &[Tuple], call: &Call) -> Option<(u64, u64, u64, u64)> {
     let (position, seat, serial, shift) = call.entry.as_listed()?;
     let fits = call.template == Tuple::listed_template(position)
         && (1..=LAST_POSITION).contains(&position)
         && shift != Offset::MARK
-        && !is_listed(board, seat, serial)
-        && (position == 1 || is_filled(board, position - 1));
+        && !is_listed(held, seat, serial)
+        && (position == 1 || is_filled(held, position - 1));
     fits.then_some((position, seat, serial, shift))
 }
 
 /// Whether this seat and serial are listed, at any position with any shift.
-pub(crate) fn is_listed(board: &Board, seat: u64, serial: u64) -> bool {
-    list(board).any(|(_, q, s, _)| (q, s) == (seat, serial))
+pub(crate) fn is_listed(held: &[Tuple], seat: u64, serial: u64) -> bool {
+    list(held).any(|(_, q, s, _)| (q, s) == (seat, serial))
 }
 
 /// Whether a list tuple of this position is on the board.
-fn is_filled(board: &Board, position: u64) -> bool {
-    list(board).any(|(p, _, _, _)| p == position)
+fn is_filled(held: &[Tuple], position: u64) -> bool {
+    list(held).any(|(p, _, _, _)| p == position)
 }
 
 /// Position, seat, serial and shift of the list tuples, oldest first.
-fn list(board: &Board) -> impl Iterator<Item = (u64, u64, u64, u64)> + '_ {
-    board.held().iter().filter_map(Tuple::as_listed)
+fn list(held: &[Tuple]) -> impl Iterator<Item = (u64, u64, u64, u64)> + '_ {
+    held.iter().filter_map(Tuple::as_listed)
 }
 
 #[cfg(test)]
 mod tests {
     use super::*;
-    use crate::board::{Answer, AnswerKind, Config, MOST_TUPLES};
+    use crate::board::{Answer, AnswerKind, Board, MOST_TUPLES};
+    use crate::config::{Config, LIST};
     use crate::fields::{Field, Kind, LISTED};
-    use crate::policy::LIST;
     use crate::refusal::Refusal;
 
     const DENIED: Result<Answer, Refusal> = Err(Refusal::Denied);

@@ -1,9 +1,9 @@
-//! The six policies (01, "Policies", and 02, 2.1 to 2.3, 2.6 and 2.7). The
-//! board handed to `check` is well formed and the call is sound and of a seat
-//! from 1 to n.
+//! The six policies (01, "Policies", and 02, 2.1 to 2.3, 2.6 and 2.7), over the
+//! set-up and the tuples held, oldest first. Those handed to `check` are a
+//! well-formed board's, and the call is sound and of a seat from 1 to n.
 
 use crate::announcements;
-use crate::board::Board;
+use crate::config::{Config, BARE, DEFAULT, LIST, STRONG, WAIT_FREE, WEAK};
 use crate::fields::{Field, Kind, Tuple, DECISION, MOST_SEATS};
 use crate::list;
 use crate::numbers::Offset;
@@ -13,32 +13,19 @@ use crate::refusal::Refusal;
 /// Rounds are 0 to this.
 pub const LAST_ROUND: u64 = 7;
 
-/// Policy 0: all is permitted.
-pub const BARE: u64 = 0;
-/// Policy 1: only cas, with an offset that is not the mark.
-pub const WEAK: u64 = 1;
-/// Policy 2: an offset that t + 1 seats proposed, or else the mark.
-pub const DEFAULT: u64 = 2;
-/// Policy 3: one of k choices, which t + 1 seats proposed.
-pub const STRONG: u64 = 3;
-/// Policy 4: a list of shifts, filled position by position.
-pub const LIST: u64 = 4;
-/// Policy 5: the same, but first what a seat has announced, in its turn.
-pub const WAIT_FREE: u64 = 5;
-
 /// Refused 7, or under policies 2 and 3 in its place 12 or 13, unless the
-/// board's policy permits the call.
-pub(crate) fn check(board: &Board, code: Code, call: &Call) -> Result<(), Refusal> {
-    match (board.config.policy, code) {
+/// set-up's policy permits the call.
+pub(crate) fn check(config: &Config, held: &[Tuple], code: Code, call: &Call) -> Result<(), Refusal> {
+    match (config.policy, code) {
         (BARE, _) => Ok(()),
         (WEAK, Code::Cas) if weak_cas(&call.template, &call.entry) => Ok(()),
-        (DEFAULT | STRONG, Code::Out) => proposing_out(board, call.process.into(), &call.entry),
+        (DEFAULT | STRONG, Code::Out) => proposing_out(config, held, call.process.into(), &call.entry),
         (DEFAULT | STRONG | LIST | WAIT_FREE, Code::Rdp) => Ok(()),
-        (DEFAULT | STRONG, Code::Cas) => deciding_cas(board, &call.template, &call.entry),
-        (LIST, Code::Cas) if list::permits(board, call) => Ok(()),
-        (WAIT_FREE, Code::Out) if announcements::permits_out(board, call) => Ok(()),
+        (DEFAULT | STRONG, Code::Cas) => deciding_cas(config, held, &call.template, &call.entry),
+        (LIST, Code::Cas) if list::permits(held, call) => Ok(()),
+        (WAIT_FREE, Code::Out) if announcements::permits_out(held, call) => Ok(()),
         (WAIT_FREE, Code::Inp) if announcements::permits_inp(call) => Ok(()),
-        (WAIT_FREE, Code::Cas) if announcements::permits_cas(board, call) => Ok(()),
+        (WAIT_FREE, Code::Cas) if announcements::permits_cas(config, held, call) => Ok(()),
         _ => Err(Refusal::Denied),
     }
 }
@@ -59,12 +46,12 @@ fn weak_cas(template: &Tuple, entry: &Tuple) -> bool {
 
 /// Fig. 5, out: an offset that may be proposed, else 7, where the calling seat
 /// has no other, whatever it be, in the round, else 12.
-fn proposing_out(board: &Board, process: u64, entry: &Tuple) -> Result<(), Refusal> {
+fn proposing_out(config: &Config, held: &[Tuple], process: u64, entry: &Tuple) -> Result<(), Refusal> {
     let (round, seat, offset) = entry.as_proposal().ok_or(Refusal::Denied)?;
-    if round > LAST_ROUND || seat != process || !board.config.may_propose(offset) {
+    if round > LAST_ROUND || seat != process || !config.may_propose(offset) {
         return Err(Refusal::Denied);
     }
-    let again = board.held().iter().filter_map(Tuple::as_proposal).any(|(r, q, _)| (r, q) == (round, seat));
+    let again = held.iter().filter_map(Tuple::as_proposal).any(|(r, q, _)| (r, q) == (round, seat));
     if again {
         return Err(Refusal::Second);
     }
@@ -73,15 +60,15 @@ fn proposing_out(board: &Board, process: u64, entry: &Tuple) -> Result<(), Refus
 
 /// Fig. 5, cas: a decision of what may be decided, with a set in 1 to n, else
 /// 7, that bears it out, else 13.
-fn deciding_cas(board: &Board, template: &Tuple, entry: &Tuple) -> Result<(), Refusal> {
+fn deciding_cas(config: &Config, held: &[Tuple], template: &Tuple, entry: &Tuple) -> Result<(), Refusal> {
     let (round, offset, seats) = entry.as_decision().ok_or(Refusal::Denied)?;
     if *template != Tuple::decision_template(round) || round > LAST_ROUND {
         return Err(Refusal::Denied);
     }
-    if seats >> board.config.n != 0 || !board.config.may_decide(offset) {
+    if seats >> config.n != 0 || !config.may_decide(offset) {
         return Err(Refusal::Denied);
     }
-    if !bears(board, round, offset, seats) {
+    if !bears(config, held, round, offset, seats) {
         return Err(Refusal::Unborne);
     }
     Ok(())
@@ -90,9 +77,9 @@ fn deciding_cas(board: &Board, template: &Tuple, entry: &Tuple) -> Result<(), Re
 /// Whether this set of seats bears the offset in the round: at least t + 1
 /// seats that have each proposed it; for the mark at least n - t seats that
 /// have each proposed, and no offset proposed by more than t of them.
-fn bears(board: &Board, round: u64, offset: u64, seats: u64) -> bool {
-    let (n, t) = (board.config.n, board.config.t);
-    let proposals = Proposals::of(board, round);
+fn bears(config: &Config, held: &[Tuple], round: u64, offset: u64, seats: u64) -> bool {
+    let Config { n, t, .. } = *config;
+    let proposals = Proposals::of(config, held, round);
     let size = u64::from(seats.count_ones());
     if offset == Offset::MARK {
         size >= n - t
@@ -103,17 +90,17 @@ fn bears(board: &Board, round: u64, offset: u64, seats: u64) -> bool {
     }
 }
 
-/// What the board's seats have proposed in one round: seat and offset. A tuple
+/// What seats have proposed in one round: seat and offset. A tuple
 /// with what may not be proposed is none.
 struct Proposals(Vec<(u64, u64)>);
 
 impl Proposals {
-    fn of(board: &Board, round: u64) -> Proposals {
+    fn of(config: &Config, held: &[Tuple], round: u64) -> Proposals {
         let proposal = |tuple: &Tuple| match tuple.as_proposal() {
-            Some((r, seat, offset)) if r == round && board.config.may_propose(offset) => Some((seat, offset)),
+            Some((r, seat, offset)) if r == round && config.may_propose(offset) => Some((seat, offset)),
             _ => None,
         };
-        Proposals(board.held().iter().filter_map(proposal).collect())
+        Proposals(held.iter().filter_map(proposal).collect())
     }
 
     /// The offsets proposed, perhaps more than once.
@@ -140,7 +127,7 @@ fn set(seats: impl Iterator<Item = u64>) -> u64 {
 #[cfg(test)]
 mod tests {
     use super::*;
-    use crate::board::{Answer, Config};
+    use crate::board::{Answer, Board};
     use crate::fields::PROPOSE;
 
     const DENIED: Result<Answer, Refusal> = Err(Refusal::Denied);

@@ -9,10 +9,10 @@
 
 use std::fmt::Write;
 
-use crate::board::{Answer, Board, Config};
+use crate::board::{Answer, Board};
+use crate::config::{Config, DEFAULT, STRONG};
 use crate::fields::{Tuple, MOST_SEATS};
 use crate::numbers::Offset;
-use crate::policy::{DEFAULT, STRONG};
 use crate::records::Call;
 use crate::seat::{Phase, Seat, Step};
 use crate::text;

@@ -1,7 +1,7 @@
 //! A whole script: bytes in, text out (01, "A whole script", and 02, 2.1).
 
-use crate::board::{Answer, Board, Config};
-use crate::policy::STRONG;
+use crate::board::{Answer, Board};
+use crate::config::{Config, STRONG};
 use crate::records::Reader;
 use crate::refusal::Refusal;
 use crate::text;

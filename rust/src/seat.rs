@@ -31,10 +31,11 @@
 //!
 //! Tests below compare this with an exhaustive search for small n.
 
-use crate::board::{Answer, AnswerKind, Config};
+use crate::board::{Answer, AnswerKind};
+use crate::config::{Config, DEFAULT, STRONG};
 use crate::fields::{Tuple, MOST_SEATS};
 use crate::numbers::Offset;
-use crate::policy::{DEFAULT, LAST_ROUND, STRONG};
+use crate::policy::LAST_ROUND;
 use crate::records::Call;
 use crate::refusal::Refusal;
 

@@ -10,9 +10,9 @@ use common::dumps::{board_with, near_miss, Dumps};
 use common::lists::{near_call, odd_list, Cause};
 use common::reached::Flaw;
 use common::*;
+use reference::config::{LIST, WAIT_FREE};
 use reference::fields::MOST_SEATS;
 use reference::list::LAST_POSITION;
-use reference::policy::{LIST, WAIT_FREE};
 use reference::{Answer, Board, Call, Config, Field, Kind, Offset, Refusal, Tuple};
 
 /// A board under policy 4 with a list that no run need make.

@@ -12,9 +12,10 @@ use common::announced::{Came, Helping};
 use common::denials::Denials;
 use common::lists::{Cause, Race};
 use common::{config_of, Dice};
+use reference::config::{DEFAULT, LIST, STRONG, WAIT_FREE};
 use reference::fields::MOST_SEATS;
 use reference::list::LAST_POSITION;
-use reference::policy::{DEFAULT, LAST_ROUND, LIST, STRONG, WAIT_FREE};
+use reference::policy::LAST_ROUND;
 use reference::records::{read_record, record_of};
 use reference::{
     Answer, AnswerKind, Board, Call, Config, Field, Kind, Offset, Phase, Refusal, Seat, Step, Tuple,

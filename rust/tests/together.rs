@@ -15,9 +15,9 @@ use common::dumps::{near_miss, Dumps};
 use common::lists::{self, Race};
 use common::reached::Flaw;
 use common::*;
+use reference::config::{BARE, DEFAULT, LIST, STRONG, WAIT_FREE, WEAK};
 use reference::fields::MOST_SEATS;
 use reference::list::LAST_POSITION;
-use reference::policy::{BARE, DEFAULT, LIST, STRONG, WAIT_FREE, WEAK};
 use reference::records::record_of;
 use reference::script::LONGEST_SCRIPT;
 use reference::{

@@ -3,7 +3,8 @@
 
 use std::collections::BTreeMap;
 
-use reference::policy::{DEFAULT, LAST_ROUND, LIST, STRONG, WAIT_FREE};
+use reference::config::{DEFAULT, LIST, STRONG, WAIT_FREE};
+use reference::policy::LAST_ROUND;
 use reference::{Answer, AnswerKind, Board, Call, Config, Offset, Tuple};
 
 use super::lists::Lists;

@@ -4,8 +4,8 @@
 use std::collections::BTreeMap;
 
 use reference::board::MOST_TUPLES;
+use reference::config::{BARE, LIST, STRONG, WAIT_FREE, WEAK};
 use reference::dump::LONGEST_DUMP;
-use reference::policy::{BARE, LIST, STRONG, WAIT_FREE, WEAK};
 use reference::records::Reader;
 use reference::script::run;
 use reference::{flat, sys};

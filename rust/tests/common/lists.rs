@@ -5,8 +5,8 @@
 use std::collections::{BTreeMap, BTreeSet};
 
 use reference::board::MOST_TUPLES;
+use reference::config::LIST;
 use reference::list::LAST_POSITION;
-use reference::policy::LIST;
 use reference::{Answer, AnswerKind, Board, Call, Config, Field, Kind, Offset, Refusal, Tuple};
 
 use super::{announced, good_field, good_tuple, spoil, Dice, PARTS, SEATS};

@@ -9,10 +9,10 @@ pub mod dumps;
 pub mod lists;
 pub mod reached;
 
+use reference::config::STRONG;
 use reference::dump::dump_into;
 use reference::fields::{MOST_FIELDS, MOST_SEATS};
 use reference::list::LAST_POSITION;
-use reference::policy::STRONG;
 use reference::records::{read_record, record_of, write_record};
 use reference::script::run_into;
 use reference::{flat, sys};

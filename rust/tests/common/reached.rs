@@ -2,7 +2,8 @@
 //! one that the policy lets somebody append to those before it, since policies 1 to 4 let nobody take one off. Policy 5 does, and has no
 //! rule here: its boards are not written back.
 
-use reference::policy::{BARE, DEFAULT, LAST_ROUND, LIST, STRONG, WEAK};
+use reference::config::{BARE, DEFAULT, LIST, STRONG, WEAK};
+use reference::policy::LAST_ROUND;
 use reference::{Board, Config, Field, Kind, Offset, Tuple};
 
 /// Why nobody may append a tuple to those before it.

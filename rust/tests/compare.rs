@@ -13,10 +13,10 @@ use reference::board::MOST_TUPLES;
 use reference::config::{BARE, DEFAULT, LIST, STRONG, WAIT_FREE, WEAK};
 use reference::dump::LONGEST_DUMP;
 use reference::fields::{MOST_FIELDS, MOST_SEATS};
+use reference::flat;
 use reference::list::LAST_POSITION;
 use reference::policy::LAST_ROUND;
 use reference::records::record_of;
-use reference::{flat, sys};
 use reference::{Answer, AnswerKind, Board, Call, Config, Field, Kind, Offset, Phase, Refusal, Seat, Tuple};
 
 fn count(kind: &str, inputs: usize, note: String) {
@@ -672,6 +672,9 @@ fn offsets_to_start_with() -> Vec<Offset> {
     numbers.into_iter().map(|z| Offset::Number(z.into())).chain([Offset::Mark]).collect()
 }
 
+/// Flags of the mark, and hundredths beside it that would start a seat.
+const FLAGGED: [(u8, i32); 6] = [(1, 1), (2, 0), (2, -40), (128, 1), (255, 0), (255, 100_000)];
+
 #[test]
 fn seats_started() {
     let all = offsets_to_start_with();
@@ -689,6 +692,12 @@ fn seats_started() {
                 for offset in offsets {
                     let starts = compare_start(config, *process, *round, *offset).is_ok();
                     started[usize::from(config.policy == STRONG)] += usize::from(starts);
+                    inputs += 1;
+                }
+                // Every flag but 0 is the mark's, whatever stands beside it.
+                for (flag, hundredths) in if sound { &FLAGGED[..] } else { &FLAGGED[..1] } {
+                    let mark = compare_flagged(config, *process, *round, (*flag, *hundredths));
+                    assert!(mark.is_err(), "{config:?} {process} {round} {flag} {hundredths}");
                     inputs += 1;
                 }
             }
@@ -970,32 +979,49 @@ fn set_ups_of_scripts() {
             }
         }
     }
-    for length in [65_535, 65_536, 65_537, 70_000] {
-        let mut script = vec![4, 1, 0];
-        while script.len() + 5 <= length {
-            script.extend([1, 1 + (script.len() % 3) as u8 % 2, 1, 4, 7]);
-        }
-        script.resize(length, 1);
-        _ = compare_script(&script, &vec![0xA5; 1 << 21]);
+    let longest = scripts_of_the_longest_length();
+    for script in &longest {
+        _ = compare_script(script, &vec![0xA5; 1 << 20]);
         inputs += 1;
     }
-    count("set-ups of scripts, and scripts of the longest length", inputs, String::new());
+    count(
+        "set-ups of scripts, and scripts of the longest length",
+        inputs,
+        format!("{} of these, {} texts as the program prints them", longest.len(), texts()),
+    );
 }
 
-/// A blank space stands beside a refused set-up.
+/// Scripts at and above the greatest length, behind set-ups that stand, that are refused 1, and that can't be read. Above it all are 9.
+fn scripts_of_the_longest_length() -> Vec<Vec<u8>> {
+    let set_ups: [&[u8]; 10] = [
+        &[4, 1, 0],
+        &[4, 1, 2],
+        &[5, 1, 3, 3],
+        &[3, 1, 0],
+        &[4, 1, 6],
+        &[4, 1, 3, 9],
+        &[0x84, 0x00, 1, 0],
+        &[4, 1, 0x80, 0x00],
+        &[4, 0xFF, 0xFF, 0xFF, 0xFF, 0x10, 0],
+        &[0xFF, 0xFF, 0xFF, 0xFF, 0xFF],
+    ];
+    let mut scripts = Vec::new();
+    for set_up in set_ups {
+        for length in [65_535, 65_536, 65_537, 70_000] {
+            let mut script = set_up.to_vec();
+            while script.len() + 5 <= length {
+                script.extend([1, 1 + (script.len() % 3) as u8 % 2, 1, 4, 7]);
+            }
+            script.resize(length, 1);
+            scripts.push(script);
+        }
+    }
+    scripts
+}
+
 #[test]
 fn fresh_boards() {
-    let (mut inputs, mut sound) = (0, 0);
-    let blank = Board { config: Config::default(), count: 0, tuples: [Tuple::BLANK; MOST_TUPLES] };
-    for config in every_config() {
-        let ours = sys::fresh(flat::config(&config));
-        let (refusal, board) = match Board::fresh(config) {
-            Ok(board) => (0, board),
-            Err(refusal) => (refusal.number(), blank.clone()),
-        };
-        assert_eq!(ours, sys::Opened { refusal, space: flat::space(&board) }, "{config:?}");
-        inputs += 1;
-        sound += usize::from(refusal == 0);
-    }
-    count("fresh boards", inputs, format!("{sound} of sound set-ups"));
+    let configs = every_config();
+    let sound = configs.iter().filter(|config| compare_fresh(**config).is_ok()).count();
+    count("fresh boards", configs.len(), format!("{sound} of sound set-ups"));
 }

@@ -11,7 +11,7 @@ use std::collections::HashMap;
 use common::announced::{Came, Helping};
 use common::denials::Denials;
 use common::lists::{Cause, Race};
-use common::{config_of, Dice};
+use common::{config_of, offsets_of, Dice};
 use reference::config::{DEFAULT, LIST, STRONG, WAIT_FREE};
 use reference::fields::MOST_SEATS;
 use reference::list::LAST_POSITION;
@@ -108,13 +108,10 @@ impl Record {
 /// A sound set-up under policy 2 or 3, and what its following seats propose.
 fn set_up(dice: &mut Dice, policy: u64) -> (Config, Vec<u64>) {
     let n = 1 + dice.below(MOST_SEATS);
-    if policy == DEFAULT {
-        let t = dice.below((n - 1) / 3 + 1);
-        return (Config { n, t, policy, k: 0 }, (1..=1 + dice.below(4)).collect());
-    }
-    let k = dice.pick(&[2, 2, 3, 3, 4, 5, 6, 7, 8]);
-    let t = dice.below((n - 1) / (k + 1) + 1);
-    (Config { n, t, policy, k }, (0..=dice.below(k)).map(|choice| 1 + 2 * choice).collect())
+    let k = if policy == STRONG { dice.pick(&[2, 2, 3, 3, 4, 5, 6, 7, 8]) } else { 0 };
+    let t = dice.below((n - 1) / if policy == STRONG { k + 1 } else { 3 } + 1);
+    let config = Config { n, t, policy, k };
+    (config, offsets_of(dice, &config))
 }
 
 /// Makes one run; gives the number of rounds decided in it, and how many calls

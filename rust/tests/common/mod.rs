@@ -9,12 +9,16 @@ pub mod dumps;
 pub mod lists;
 pub mod reached;
 
+use std::cell::RefCell;
+use std::fmt::Debug;
+
+use reference::board::MOST_TUPLES;
 use reference::config::STRONG;
 use reference::dump::dump_into;
 use reference::fields::{MOST_FIELDS, MOST_SEATS};
 use reference::list::LAST_POSITION;
 use reference::records::{read_record, record_of, write_record};
-use reference::script::run_into;
+use reference::script::{run, run_into, LONGEST_SCRIPT};
 use reference::{flat, sys};
 use reference::{
     Answer, AnswerKind, Board, Call, Config, Field, Kind, Offset, Phase, Refusal, Seat, Step, Tuple,
@@ -139,6 +143,20 @@ pub fn every_config() -> Vec<Config> {
     configs
 }
 
+/// The offsets that following seats propose and strays race them with: 0, 7, -7, 40, -40, 100,000 and -100,000.
+pub const OFFSETS: [u64; 7] = [1, 15, 14, 81, 80, 200_001, 200_000];
+
+/// Offsets for a run, one or a few, so that they meet: of the choices under policy 3, else of these.
+pub fn offsets_of(dice: &mut Dice, config: &Config) -> Vec<u64> {
+    let all = match config.policy {
+        STRONG => (0..config.k).map(|choice| 1 + 2 * choice).collect(),
+        _ => OFFSETS.to_vec(),
+    };
+    // Those from one place on, round the table: the opposites stand side by side.
+    let (first, many) = (dice.below(all.len() as u64) as usize, 1 + dice.below(4) as usize);
+    all.into_iter().cycle().skip(first).take(many).collect()
+}
+
 /// An offset that may be proposed; one of a few, so that they meet.
 pub fn likely_offset(dice: &mut Dice, config: &Config) -> u64 {
     match config.policy {
@@ -242,24 +260,58 @@ pub fn soil(dice: &mut Dice, place: &mut Tuple, part: u64) {
 
 // ---- the comparisons
 
+/// What proved and plain give must be equal. `rust/plant` looks for these words, and sets `FIRST`, by which all ends at the first difference.
+fn same<T: PartialEq + Debug>(proved: T, plain: T, input: impl FnOnce() -> String) {
+    if proved == plain {
+        return;
+    }
+    let difference = format!("proved and plain differ: {}\nproved {proved:?}\nplain {plain:?}", input());
+    if std::env::var_os("FIRST").is_some() {
+        println!("{difference}");
+        std::process::exit(1);
+    }
+    panic!("{difference}");
+}
+
+/// A fresh board, by both: the refusal, and beside it the blank space.
+pub fn compare_fresh(config: Config) -> Result<Board, Refusal> {
+    let plain = Board::fresh(config);
+    let blank = Board { config: Config::default(), count: 0, tuples: [Tuple::BLANK; MOST_TUPLES] };
+    let refusal = plain.as_ref().map_or_else(|refusal| refusal.number(), |_| 0);
+    let space = flat::space(plain.as_ref().unwrap_or(&blank));
+    same(sys::fresh(flat::config(&config)), sys::Opened { refusal, space }, || format!("{config:?}"));
+    plain
+}
+
 /// A call on a board, by both: the answer and the whole board afterwards must be equal.
 pub fn compare_call(board: &mut Board, call: &Call) -> Answer {
     let before = board.clone();
     let ours = sys::apply(flat::space(&before), flat::call(call));
     let answer = Answer::from(board.call(call));
-    let expected = sys::Applied { reply: flat::reply(&answer), space: flat::space(board) };
-    if ours != expected {
-        panic!("{call:?}\non {before:?}\nproved {ours:?}\nplain {expected:?}");
-    }
+    let plain = sys::Applied { reply: flat::reply(&answer), space: flat::space(board) };
+    same(ours, plain, || format!("{call:?}\non {before:?}"));
     answer
 }
 
-/// Writing a call's record, by both: the length or refusal and the whole buffer.
+/// How many bytes stand before and behind a lent buffer, and what they are.
+const GUARD: usize = 32;
+const GUARDED: u8 = 0xC3;
+
+/// Lends a buffer with these bytes in it, guards before and behind it; what is answered, the buffer afterwards, and the guards.
+fn lend<T>(buffer: &[u8], work: impl FnOnce(&mut [u8]) -> T) -> (T, Vec<u8>, Vec<u8>) {
+    let guard = [GUARDED; GUARD];
+    let mut lent = [&guard, buffer, &guard].concat();
+    let answer = work(&mut lent[GUARD..GUARD + buffer.len()]);
+    let behind = lent.split_off(GUARD + buffer.len());
+    let buffer = lent.split_off(GUARD);
+    (answer, buffer, [lent, behind].concat())
+}
+
+/// Writing a call's record, by both: the length or refusal and the whole buffer, and nothing around it.
 pub fn compare_write(call: &Call, buffer: &[u8]) {
-    let (mut ours, mut plain) = (buffer.to_vec(), buffer.to_vec());
-    let proved = sys::write(flat::call(call), &mut ours);
-    let written = write_record(call, &mut plain).map_err(Refusal::number);
-    assert_eq!((proved, ours), (written, plain), "{call:?}");
+    let proved = lend(buffer, |lent| sys::write(flat::call(call), lent));
+    let plain = lend(buffer, |lent| write_record(call, lent).map_err(Refusal::number));
+    same(proved, plain, || format!("{call:?} into {} bytes", buffer.len()));
 }
 
 /// Reading the record at a place, by both.
@@ -269,27 +321,60 @@ pub fn compare_read(bytes: &[u8], at: usize) -> bool {
         Ok((call, taken)) => sys::Read { refusal: 0, next: at + taken, call: flat::call(&call) },
         Err(refusal) => sys::Read { refusal: refusal.number(), ..sys::Read::default() },
     };
-    assert_eq!(proved, plain, "{bytes:02X?} at {at}");
+    same(proved, plain, || format!("{bytes:02X?} at {at}"));
     plain.refusal == 0
 }
 
-/// A script's text into a buffer, by both.
+/// A script's text into a buffer, by both, and into one that has room for every text.
 pub fn compare_script(script: &[u8], buffer: &[u8]) -> Result<usize, Refusal> {
-    let (mut ours, mut plain) = (buffer.to_vec(), buffer.to_vec());
-    let proved = sys::script(script, &mut ours);
-    let answer = run_into(script, &mut plain);
-    assert_eq!(proved, answer.map_err(Refusal::number), "{script:02X?}");
-    assert!(ours == plain, "{script:02X?}");
+    let proved = lend(buffer, |lent| sys::script(script, lent));
+    let (answer, left, guards) = lend(buffer, |lent| run_into(script, lent));
+    let plain = (answer.map_err(Refusal::number), left, guards);
+    same(proved, plain, || format!("{script:02X?} into {} bytes", buffer.len()));
+    compare_text(script);
     answer
 }
 
-/// Writing a board back as a script, by both: the length or refusal and the whole buffer. Gives what the proved function wrote.
+/// The buffer that the program lends has room for the text of every script, so that the text is not measured first.
+const EVERY_TEXT: usize = 16 * LONGEST_SCRIPT + 64;
+
+thread_local! {
+    /// Such a buffer with its guards, and how many scripts it was lent for.
+    static WIDE: RefCell<(Vec<u8>, usize)> = RefCell::new((vec![GUARDED; EVERY_TEXT + 2 * GUARD], 0));
+}
+
+/// A script's text by the path that the program takes, and nothing around it.
+fn compare_text(script: &[u8]) {
+    let text = run(script);
+    WIDE.with_borrow_mut(|(wide, lent)| {
+        let answer = sys::script(script, &mut wide[GUARD..GUARD + EVERY_TEXT]);
+        let end = GUARD + text.len();
+        let ours = String::from_utf8_lossy(&wide[GUARD..end]);
+        same((answer, ours.as_ref()), (Ok(text.len()), &text), || format!("{script:02X?}"));
+        wide[GUARD..end].fill(GUARDED);
+        // All of what is outside the text now and then, else what is next to it, and the guards.
+        let near = (end + 1024).min(wide.len());
+        let (front, rest) =
+            if *lent % 64 == 0 { (wide.len(), wide.len()) } else { (near, GUARD + EVERY_TEXT) };
+        let changed = wide[..front].iter().chain(&wide[rest..]).filter(|byte| **byte != GUARDED).count();
+        same(changed, 0, || format!("bytes outside the text of {script:02X?}"));
+        *lent += 1;
+    });
+}
+
+/// How many scripts' texts were compared by the path that the program takes, on this thread.
+pub fn texts() -> usize {
+    WIDE.with_borrow(|(_, lent)| *lent)
+}
+
+/// Writing a board back as a script, by both: the length or refusal and the whole buffer, and nothing around it. Gives what the proved
+/// function wrote.
 pub fn compare_dump(board: &Board, buffer: &[u8]) -> Result<Vec<u8>, Refusal> {
-    let (mut ours, mut plain) = (buffer.to_vec(), buffer.to_vec());
-    let proved = sys::dump(flat::space(board), &mut ours);
-    let answer = dump_into(board, &mut plain);
-    assert_eq!(proved, answer.map_err(Refusal::number), "{board:?}");
-    assert!(ours == plain, "{board:?}\nproved {ours:02X?}\nplain {plain:02X?}");
+    let proved = lend(buffer, |lent| sys::dump(flat::space(board), lent));
+    let mut ours = proved.1.clone();
+    let (answer, left, guards) = lend(buffer, |lent| dump_into(board, lent));
+    let plain = (answer.map_err(Refusal::number), left, guards);
+    same(proved, plain, || format!("{board:?} into {} bytes", buffer.len()));
     // Nothing behind the script was changed; of a refused one, nothing at all.
     let length = answer.unwrap_or(0);
     assert!(ours[length..] == buffer[length..], "{board:?}\nproved {ours:02X?}");
@@ -308,9 +393,21 @@ pub fn compare_start(
         Offset::Mark => (1, 0),
         Offset::Number(z) => (0, i32::try_from(z).expect("an offset that crosses")),
     };
+    compare_flagged(config, process, round, (bottom, hundredths))
+}
+
+/// Starting a seat, by both, with a flag for the mark, any but 0, and hundredths, which do not matter beside it.
+pub fn compare_flagged(
+    config: Config,
+    process: u32,
+    round: u64,
+    (bottom, hundredths): (u8, i32),
+) -> Result<(Seat, Call), Refusal> {
+    let offset = if bottom == 0 { Offset::Number(hundredths.into()) } else { Offset::Mark };
     let ours = sys::start(flat::config(&config), process, round, bottom, hundredths);
     let plain = Seat::start(config, process, round, offset.travelling().unwrap_or(u64::MAX));
-    assert_eq!(ours, flat::started(&plain), "{config:?} {process} {round} {offset:?}");
+    let input = || format!("{config:?} {process} {round} {bottom} {hundredths}");
+    same(ours, flat::started(&plain), input);
     plain
 }
 
@@ -319,13 +416,13 @@ pub fn compare_hand(seat: &Seat, answer: &Answer) -> Result<(Seat, Step), Refusa
     let before = flat::process(seat);
     let ours = sys::resume(before, flat::reply(answer));
     let plain = seat.hand(answer);
-    assert_eq!(ours, flat::handed(&before, &plain), "{seat:?} {answer:?}");
+    same(ours, flat::handed(&before, &plain), || format!("{seat:?} {answer:?}"));
     plain
 }
 
 /// What a seat waits for that is not of this crate's types: numbers that are no phase's, no outcome's, or too large.
 pub fn compare_numbers(process: sys::Process, reply: sys::Reply, expected: sys::Step) {
-    assert_eq!(sys::resume(process, reply), expected, "{process:?} {reply:?}");
+    same(sys::resume(process, reply), expected, || format!("{process:?} {reply:?}"));
 }
 
 /// The record of a call that is known to be sound.

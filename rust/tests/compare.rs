@@ -245,15 +245,19 @@ fn aimed_call(dice: &mut Dice, board: &Board) -> Call {
         WAIT_FREE if !dice.one_in(8) => return announced::near_call(dice, board, seat),
         _ => {}
     }
-    let (round, offset) = (dice.pick(&[0, 0, 0, 1, 7, 8]), near_offset(dice, &board.config));
+    let round = dice.pick(&[0, 0, 0, 0, 0, 1, 7, 8]);
+    let for_mark = board.config.policy == DEFAULT && dice.one_in(3);
+    let offset = if for_mark { Offset::MARK } else { near_offset(dice, &board.config) };
     let own = if dice.one_in(6) { dice.below(MOST_SEATS + 2) } else { seat.into() };
     let within = (1 << if dice.one_in(8) { MOST_SEATS } else { n }) - 1;
-    // Any set, or those that bear the offset, at times with one seat more or fewer.
+    // Any set, or those that bear the offset, at times with one seat more or fewer; for the mark all that stand, or some of each offset.
+    let bear = bearers(board, round, offset) & within;
     let set = match dice.below(6) {
-        0 => dice.below(1 << MOST_SEATS),
-        1 | 2 => bearers(board, round, offset) ^ 1 << dice.below(n),
-        _ => bearers(board, round, offset),
-    } & within;
+        0 => dice.below(1 << MOST_SEATS) & within,
+        1 => bear ^ 1 << dice.below(n),
+        2..=4 if offset == Offset::MARK => uncrowded(dice, board, round, bear),
+        _ => bear,
+    };
     let entry = odd_tuple(dice, &board.config);
     let mut template = odd_tuple(dice, &board.config);
     for field in &mut template.fields[..template.count] {
@@ -271,6 +275,18 @@ fn aimed_call(dice: &mut Dice, board: &Board) -> Call {
     }
 }
 
+/// A round in which most seats have proposed something, mostly not the same, at times nothing but the mark, or a second time.
+fn odd_proposals(dice: &mut Dice, config: &Config) -> Vec<Tuple> {
+    let mut proposals = Vec::new();
+    for seat in 1..=config.n.clamp(1, MOST_SEATS) {
+        for _ in 0..dice.pick(&[0, 1, 1, 1, 1, 1, 2]) {
+            let offset = if dice.one_in(4) { near_offset(dice, config) } else { dice.pick(&OFFSETS) };
+            proposals.push(Tuple::proposal(0, seat, offset));
+        }
+    }
+    proposals
+}
+
 /// A board as no run need make it, at times not well formed.
 fn odd_board(dice: &mut Dice) -> Board {
     let config = if dice.one_in(8) {
@@ -286,8 +302,12 @@ fn odd_board(dice: &mut Dice) -> Board {
         2 => dice.below(MOST_TUPLES as u64 + 1) as usize,
         _ => dice.below(24) as usize,
     };
+    let proposals = if dice.one_in(2) { odd_proposals(dice, &config) } else { Vec::new() };
     for place in 0..held {
-        board.tuples[place] = odd_tuple(dice, &config);
+        board.tuples[place] = match proposals.get(place) {
+            Some(proposal) => *proposal,
+            None => odd_tuple(dice, &config),
+        };
     }
     board.count = held;
     // What is not well formed: a count that is not the tuples', a dirty place, a field out of range.
@@ -316,8 +336,8 @@ fn boards_that_no_run_makes() {
     let mut dice = Dice::new(4);
     let (mut inputs, mut outcomes) = (0, [0usize; ANSWERS]);
     let mut denials = Denials::default();
-    // What is inserted or held under policies 2 to 5.
-    let mut entries = [0usize; 4];
+    // What is inserted or held under policies 2 to 5, and the mark, which is so under policy 2.
+    let (mut entries, mut marks) = ([0usize; 4], 0);
     for _ in 0..42_000 {
         let mut board = odd_board(&mut dice);
         let policy = board.config.policy;
@@ -329,13 +349,15 @@ fn boards_that_no_run_makes() {
             outcomes[refusal_of(&answer)] += 1;
             if matches!(answer.kind, AnswerKind::Inserted | AnswerKind::Held) && policy >= DEFAULT {
                 entries[(policy - DEFAULT) as usize] += 1;
+                let mark = |(_, offset, _)| offset == Offset::MARK;
+                marks += usize::from(call.entry.as_decision().is_some_and(mark));
             }
             inputs += 1;
         }
     }
     count("calls on boards that no run makes", inputs, format!("answered, refused 1 to 13: {outcomes:?}"));
-    println!("         inserted or held under policies 2 to 5: {entries:?}");
-    assert!(entries.iter().all(|often| *often > 200), "{entries:?}");
+    println!("         inserted or held under policies 2 to 5: {entries:?}, {marks} of the mark");
+    assert!(entries.iter().all(|often| *often > 200) && marks > 20, "{entries:?} {marks}");
     denials.announced.assert_each(&lists::Cause::UNDER_5, 25);
     assert!(outcomes[12] > 200 && outcomes[13] > 200, "{outcomes:?}");
 }
@@ -380,6 +402,15 @@ fn some_of(dice: &mut Dice, set: u64, most: u64) -> u64 {
     some
 }
 
+/// Of a set those members that leave at most t of each offset of the round, so that none is crowded.
+fn uncrowded(dice: &mut Dice, board: &Board, round: u64, set: u64) -> u64 {
+    let offsets = board.held().iter().filter_map(Tuple::as_proposal).map(|(_, _, offset)| offset);
+    offsets.filter(|offset| *offset != Offset::MARK).fold(set, |set, offset| {
+        let theirs = bearers(board, round, offset);
+        set & !theirs | some_of(dice, set & theirs, board.config.t)
+    })
+}
+
 /// An out in a round: the seat's first proposal or its second, of the same or another offset, the mark or what is no choice, now and
 /// then of another's number.
 fn near_out(dice: &mut Dice, board: &Board, round: u64) -> Call {
@@ -407,14 +438,7 @@ fn near_cas(dice: &mut Dice, board: &Board, round: u64) -> Call {
     };
     let proposed = bearers(board, round, Offset::MARK) & all;
     let (bear, enough) = if offset == Offset::MARK {
-        // At most t of each offset, so that none is crowded.
-        let offsets: Vec<u64> =
-            board.held().iter().filter_map(Tuple::as_proposal).map(|(_, _, offset)| offset).collect();
-        let few = |set, offset: &u64| {
-            let theirs = bearers(board, round, *offset);
-            set & !theirs | some_of(dice, set & theirs, t)
-        };
-        (offsets.iter().filter(|w| **w != Offset::MARK).fold(proposed, few), n - t)
+        (uncrowded(dice, board, round, proposed), n - t)
     } else {
         (bearers(board, round, offset) & all, t + 1)
     };
@@ -836,25 +860,17 @@ fn answer(dice: &mut Dice, seat: &Seat) -> Answer {
     let bits = if dice.one_in(6) { MOST_SEATS + 1 } else { seat.config.n.clamp(1, MOST_SEATS) };
     let set = dice.below(1 << bits);
     let mut answer = match (seat.phase, dice.below(4)) {
-        (_, 0) => Answer::bare(dice.pick(&[
-            AnswerKind::Done,
-            AnswerKind::None,
-            AnswerKind::Inserted,
-            AnswerKind::Found,
-            AnswerKind::Held,
-            AnswerKind::Refused(Refusal::Denied),
-            AnswerKind::Refused(Refusal::Second),
-            AnswerKind::Refused(Refusal::Unborne),
-            AnswerKind::Refused(Refusal::Unreached),
-            AnswerKind::Refused(Refusal::Unwritten),
-            AnswerKind::Refused(Refusal::Unfit),
-        ])),
+        (_, 0) => Answer::bare(any_kind(dice)),
         (Phase::Proposing, _) => Answer::DONE,
         (Phase::Reading(_), 1) => Answer::NONE,
         (Phase::Reading(_), _) => Answer::found(Tuple::proposal(seat.round, asked.into(), offset)),
         (Phase::Deciding, 1) => Answer::INSERTED,
         _ => Answer::held(Tuple::decision(seat.round, offset, set)),
     };
+    // What fits but for its kind, for a number of its tuple, or for all of it.
+    if dice.one_in(8) {
+        answer.kind = any_kind(dice);
+    }
     if dice.one_in(4) {
         let part = dice.below(TUPLE_PARTS);
         spoil_tuple(dice, &mut answer.tuple, part);
@@ -863,6 +879,22 @@ fn answer(dice: &mut Dice, seat: &Seat) -> Answer {
         answer.tuple = good_tuple(dice, true);
     }
     answer
+}
+
+fn any_kind(dice: &mut Dice) -> AnswerKind {
+    dice.pick(&[
+        AnswerKind::Done,
+        AnswerKind::None,
+        AnswerKind::Inserted,
+        AnswerKind::Found,
+        AnswerKind::Held,
+        AnswerKind::Refused(Refusal::Denied),
+        AnswerKind::Refused(Refusal::Second),
+        AnswerKind::Refused(Refusal::Unborne),
+        AnswerKind::Refused(Refusal::Unreached),
+        AnswerKind::Refused(Refusal::Unwritten),
+        AnswerKind::Refused(Refusal::Unfit),
+    ])
 }
 
 #[test]

@@ -474,7 +474,7 @@ const IN_RUNS: [Cause; 10] = [
 
 #[test]
 fn runs_under_policy_2() {
-    let counts = runs_under(DEFAULT, 11, 160);
+    let counts = runs_under(DEFAULT, 11, 140);
     counts.assert_dumps(DEFAULT, 300, 5);
     let Counts { decided, marks, raced, denials, .. } = counts;
     assert!(decided > 300 && marks > 30, "{decided} {marks}");

@@ -1,4 +1,5 @@
--- What crosses to C, in literals: each case of an enum beside the struct of numbers, or the number, that stands for it, as one table with one claim.
+-- What crosses to C, in literals: each case of an enum beside the struct of numbers, or the number, that stands for it, as one table with one claim. Of
+-- refusals each part has those that it can answer; replies have all.
 use mathlib.Core.Path.{_≡_}
 use mathlib.Core.Bool.{false, true}
 use mathlib.Core.List.{List, [], _∷_, map}

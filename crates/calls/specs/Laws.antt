@@ -75,7 +75,7 @@ Kept = (space : Space) (call : Call) → Tidy space → wellFormed space ≡ tru
 
 -- ---- a call that is obeyed
 
--- it answers this outcome with this tuple, and leaves these tuples
+-- it answers this outcome with this tuple, and leaves these tuples, of a space that is the one of its tuples (`TidyFormed`)
 pub record Answers (space : Space) (call : Call) (outcome : Outcome) (tuple : Tuple) (left : List Tuple) : Type 0 where
   pub reply : applied space call .reply ≡ record { outcome = outcome; tuple = tuple }
   pub leaves : Tidy space → applied space call .space ≡ spaceOf (space .config) left

@@ -13,16 +13,20 @@ use Rattle.process.specs.declared.process.Process.{Process}
 use Rattle.process.specs.declared.process.Step.{Step}
 use Rattle.process.specs.Fits.{fits}
 use Rattle.process.specs.Laws.{ReadsFirst, ReadsOn, ReadRules, DecidesRules, Unmoved, Repeats}
-use Rattle.process.specs.Procedure.{noted, readOn, advanced, isDecided, resumed}
+use Rattle.process.specs.Procedure.{reads, decides, noted, readOn, valueOf, advanced, isDecided, resumed}
 use Rattle.process.specs.States.{foundSound, wellFormed}
-use Rattle.process.specs.Tallies.{settled}
+use Rattle.process.specs.Tallies.{backed, settled}
 use Rattle.process.proofs.StateLaws.{formed-parts, none-at, none-found}
 use Rattle.tuple.specs.declared.refusal.Refusal.{Refusal}
+use Rattle.tuple.specs.declared.reply.Outcome.{Outcome}
+use Rattle.tuple.specs.declared.reply.Outcome.the-variants.{Inserted, Held}
 use Rattle.tuple.specs.declared.reply.Reply.{Reply}
 
 pub reads-first : ReadsFirst
 unfolding resumed
-reads-first process reply formed proposing fit = rw (formed, fit, or-true, proposing)
+reads-first process reply formed proposing fit =
+    let goes : resumed process reply ≡ reads process (process .found) 1 = rw (formed, fit, or-true, proposing) refl in
+    rw goes (record { calls = refl; call = refl; phase = refl })
 
 -- ---- after a reading
 
@@ -32,8 +36,8 @@ module _ (process : Process) (reply : Reply) (asked : ℕ) (formed : wellFormed 
   reads-on found e =
       let goes : resumed process reply ≡ readOn process found asked = rw (formed, fit, or-true, reading, e) refl in
       record {
-        casts = λ settles. ap (λ (s : Step). s .call) goes ∙ rw settles refl;
-        reads = λ goes-on. ap (λ (s : Step). s .call) goes ∙ rw goes-on refl;
+        casts = λ settles. rw (goes, settles) (record { calls = refl; call = refl; phase = refl });
+        reads = λ goes-on. rw (goes, goes-on) (record { calls = refl; call = refl; phase = refl });
         notes = ap (λ (s : Step). s .process .found) goes ∙ cases (settled (process .config) found) (λ h. rw h refl) (λ h. rw h refl);
       }
 
@@ -49,7 +53,14 @@ read-rules process reply asked formed reading fit =
 pub decides-rules : DecidesRules
 unfolding resumed
 decides-rules process reply formed deciding fit =
-    record { inserted = λ e. rw (formed, fit, or-true, deciding, e) refl; held = λ e. rw (formed, fit, or-true, deciding, e) refl }
+    let own = backed (process .config .t) (process .found) in
+    let goes : resumed process reply ≡ decides process (valueOf own (reply .tuple) (reply .outcome)) = rw (formed, fit, or-true, deciding) refl in
+    let value : (outcome : Outcome) → reply .outcome ≡ outcome → resumed process reply ≡ decides process (valueOf own (reply .tuple) outcome) =
+    λ outcome e. goes ∙ ap (λ (o : Outcome). decides process (valueOf own (reply .tuple) o)) e in
+    record {
+      inserted = λ e. record { decides = ap (λ (s : Step). s .next) (value Inserted e); phase = ap (λ (s : Step). s .process .phase) (value Inserted e) };
+      held = λ e. record { decides = ap (λ (s : Step). s .next) (value Held e); phase = ap (λ (s : Step). s .process .phase) (value Held e) };
+    }
 
 -- ---- refusals
 

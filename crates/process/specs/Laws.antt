@@ -7,9 +7,10 @@ use Prim.Native.Nat.{ℕ, _+_, _-_, _*_, _≤_, _<_}
 use lib.Count.{ones}
 use lib.IntN.{ℤ, pos, natAbs}
 use lib.ListN.{length, set}
-use Rattle.process.specs.declared.process.Next.the-variants.{Decides, Refuses}
+use Rattle.process.specs.declared.process.Next.the-variants.{Calls, Decides, Refuses}
 use Rattle.process.specs.declared.process.Phase.the-variants.{Proposing, Reading, Deciding, Decided}
 use Rattle.process.specs.declared.process.Process.{Process}
+use Rattle.process.specs.declared.process.Step.{Step}
 use Rattle.process.specs.Asks.{rdpCall, casCall}
 use Rattle.process.specs.Fits.{fits}
 use Rattle.process.specs.Procedure.{begun, started, resumed}
@@ -87,7 +88,7 @@ pub record StartOrder (config : Config) (process round : ℕ) (offset : Offset) 
 abbrev pub StartOrders : Type 0
 StartOrders = (config : Config) (process round : ℕ) (offset : Offset) → StartOrder config process round offset
 
--- handing a reply is refused with 1, 11, each exactly when it is the first that holds; one that has decided is refused none
+-- handing a reply is refused with 1, 11, each exactly when it is the first that holds; a well-formed one that has decided is refused none
 pub record HandOrder (process : Process) (reply : Reply) : Type 0 where
   pub unformed : (resumed process reply .next ≡ Refuses (refusal 1)) ↔ (wellFormed process ≡ false)
   pub unfit : (resumed process reply .next ≡ Refuses (refusal 11))
@@ -96,6 +97,21 @@ pub record HandOrder (process : Process) (reply : Reply) : Type 0 where
 abbrev pub HandOrders : Type 0
 HandOrders = (process : Process) (reply : Reply) → HandOrder process reply
 
+-- a step: it asks for the proposal of process q; it calls cas with the value and all found processes that back it; it has decided the offset of a code
+pub record Asks (process : Process) (step : Step) (q : ℕ) : Type 0 where
+  pub calls : step .next ≡ Calls
+  pub call : step .call ≡ rdpCall (process .process) (process .round) q
+  pub phase : step .process .phase ≡ Reading q
+
+pub record Casts (process : Process) (step : Step) (value : ℕ) (found : List ℕ) : Type 0 where
+  pub calls : step .next ≡ Calls
+  pub call : step .call ≡ casCall (process .process) (process .round) value (backingSet value found)
+  pub phase : step .process .phase ≡ Deciding
+
+pub record HasSettled (step : Step) (code : ℕ) : Type 0 where
+  pub decides : step .next ≡ Decides (offsetOf code)
+  pub phase : step .process .phase ≡ Decided code
+
 -- when its proposal is done, it reads the process 1 first
 abbrev pub ReadsFirst : Type 0
 ReadsFirst =
@@ -103,15 +119,13 @@ ReadsFirst =
     → wellFormed process ≡ true
     → process .phase ≡ Proposing
     → fits process reply ≡ true
-    → resumed process reply .call ≡ rdpCall (process .process) (process .round) 1
+    → Asks process (resumed process reply) 1
 
 -- after a reading none leaves what is found, and found notes the offset in the fourth field of the tuple for the process asked. Then, if what is found
 -- ends the reading, it calls cas with the value and all found processes that back it, and else reads on behind the one asked
 pub record ReadsOn (process : Process) (reply : Reply) (asked : ℕ) (found : List ℕ) : Type 0 where
-  pub casts : settled (process .config) found ≡ true
-      → resumed process reply .call ≡ casCall (process .process) (process .round) (backed (process .config .t) found) (backingSet (backed (process .config .t) found) found)
-  pub reads : settled (process .config) found ≡ false
-      → resumed process reply .call ≡ rdpCall (process .process) (process .round) (nextAfter (process .config .n) found asked)
+  pub casts : settled (process .config) found ≡ true → Casts process (resumed process reply) (backed (process .config .t) found) found
+  pub reads : settled (process .config) found ≡ false → Asks process (resumed process reply) (nextAfter (process .config .n) found asked)
   pub notes : resumed process reply .process .found ≡ found
 
 pub record ReadRule (process : Process) (reply : Reply) (asked : ℕ) : Type 0 where
@@ -128,8 +142,8 @@ ReadRules =
 
 -- after its cas, inserted gives the value of that cas, and held the offset in the third field of the held tuple
 pub record DecidesRule (process : Process) (reply : Reply) : Type 0 where
-  pub inserted : reply .outcome ≡ Inserted → resumed process reply .next ≡ Decides (offsetOf (backed (process .config .t) (process .found)))
-  pub held : reply .outcome ≡ Held → resumed process reply .next ≡ Decides (offsetOf (field (reply .tuple) 2 .value))
+  pub inserted : reply .outcome ≡ Inserted → HasSettled (resumed process reply) (backed (process .config .t) (process .found))
+  pub held : reply .outcome ≡ Held → HasSettled (resumed process reply) (field (reply .tuple) 2 .value)
 
 abbrev pub DecidesRules : Type 0
 DecidesRules =

@@ -14,5 +14,5 @@ pub data Reachable : Process → Type 0 where
   -- a start that is not refused
   starts : (config : Config) (process round : ℕ) (offset : Offset) → started config process round offset .next ≡ Calls
       → Reachable (started config process round offset .process)
-  -- a reply that fits; the step asks nothing of the state that it goes on from
+  -- a reply that fits; `advanced` is `resumed` without its test of the state, so that this does not rest on `wellFormed`
   resumes : (process : Process) (reply : Reply) → Reachable process → fits process reply ≡ true → Reachable (advanced process reply (process .phase) .process)

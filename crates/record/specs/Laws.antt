@@ -8,7 +8,7 @@ use Rattle.record.specs.declared.reader.Next.the-variants.{Refused}
 use Rattle.record.specs.declared.writer.Recorded.{Recorded}
 use Rattle.record.specs.declared.writer.Recorded.the-variants.{Length, Unwritten}
 use Rattle.record.specs.Reading.{place, callAt}
-use Rattle.record.specs.Writing.{callBytes, writtenOf, leftOf, longest, Typed}
+use Rattle.record.specs.Writing.{callBytes, writtenOf, leftOf, Typed}
 use Rattle.tuple.specs.declared.fault.Fault.the-variants.{Absent, Present}
 use Rattle.tuple.specs.declared.field.Field.{Field}
 use Rattle.tuple.specs.declared.field.Tuple.{Tuple}
@@ -117,8 +117,8 @@ WriteRules = (call : Call) (buffer : List ℕ) → Typed call → WriteRule call
 
 -- a record has at most 80 bytes
 abbrev pub AtMost : Type 0
-AtMost = (call : Call) → Typed call → callFault call ≡ Absent → length (callBytes call) ≤ longest
+AtMost = (call : Call) → Typed call → callFault call ≡ Absent → length (callBytes call) ≤ 80
 
 -- and one has exactly 80
 abbrev pub Attained : Type 0
-Attained = (call : Call) × Typed call × (callFault call ≡ Absent) × (length (callBytes call) ≡ longest)
+Attained = (call : Call) × Typed call × (callFault call ≡ Absent) × (length (callBytes call) ≡ 80)

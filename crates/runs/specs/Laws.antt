@@ -132,7 +132,7 @@ Giver config calls d =
     ⊎ ((turn : Turn) × List·Memᴰ turn (turns config calls) × (turn .reply .outcome ≡ Held) × Says (turn .reply .tuple) d)
     ⊎ ((process : ℕ) × HasDecided config calls process d)
 
--- each of these gives it out, and nothing else does, under any policy
+-- each of these gives it out, and nothing else does, whatever the configuration; under policies 2 and 3 these are decisions
 abbrev pub GivenOutRule : Type 0
 GivenOutRule = (config : Config) (calls : List Call) (d : Decision) → GivenOut config calls d ↔ Giver config calls d
 
@@ -302,7 +302,7 @@ StrayDecisions =
     → (run : StrayRun config m round choice)
     → StrayDecision config m round choice run
 
--- where t is at least 1 and no two choose one offset, each decides bottom
+-- where t is at least 1 and no two choose one offset, each decides bottom; under policy 3 there is no such choice, n - t being more than k
 abbrev pub Differing : Type 0
 Differing =
     (config : Config) (m round : ℕ) (choice : ℕ → Offset)

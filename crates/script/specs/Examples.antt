@@ -1,4 +1,4 @@
--- Document 01, "A whole script", and document 02, 2.1 to 2.7, by examples: the worked script and short ones, under every policy, as rows of one table with one
+-- Document 01, "A whole script", and document 02, 2.1 to 2.3, 2.6 and 2.7, by examples: the worked script and short ones, under every policy, as rows of one table with one
 -- claim. A script above 65,536 bytes is no row, for `LongRule` speaks of all of them; nor is a count of millions, for whose digits the checker would take as
 -- many steps.
 use mathlib.Core.Path.{_≡_}
@@ -154,7 +154,7 @@ rows =
     ∷ "04 02 04 04 02 08 07 0E 11" prints "9 found w2 c7 o_ s7"
     ∷ "" prints "tuples 4"
     ∷ [])
-    -- a proposal for another process and a set above n are denied; two proposals bear 40, and the mark no more; once decided, a good cas is held
+    -- a proposal for another process and a set above n are denied; two proposals bear 40, so that the mark is not borne (13); once decided, a good cas is held
     ∷ ("04 01 02" prints "board 4 1 2"
     ∷ "01 01 04 04 01 08 00 08 01 0C 51" prints "1 done"
     ∷ "02 01 04 04 01 08 00 08 02 0C 51" prints "2 done"

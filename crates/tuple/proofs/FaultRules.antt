@@ -18,15 +18,15 @@ use Rattle.tuple.specs.declared.field.Call.{Call}
 use Rattle.tuple.specs.declared.refusal.Refusal.{Refusal}
 use Rattle.tuple.specs.Bounds.{places}
 use Rattle.tuple.specs.Fields.{out, cas, largestOf, blankField}
-use Rattle.tuple.specs.Faults.{unless, first, knownHead, isDefined, fieldFault, fieldsFault, tupleFault, partFault, usesTemplate, usesEntry, usedFault, isBlank, placeBlank, restFrom, restBlank, callFault}
-use Rattle.tuple.specs.FaultLaws.{Headed, Within, SoundField, FieldRefused, Counted, SoundTuple, TupleRefused, ZeroField, ZeroRest, ZeroTuple, KnownCode, HasTemplate, HasEntry, SoundParts, ZeroParts, SoundCall, CallRefused, FaultRule, FaultRules}
+use Rattle.tuple.specs.Faults.{unless, first, knownHead, isDefined, fieldFault, fieldsFault, tupleFault, partFault, usesTemplate, usesEntry, usedFault, isBlank, placeBlank, restFrom, restBlank, callFault, isAbsent, isEntry}
+use Rattle.tuple.specs.FaultLaws.{Headed, Within, SoundField, FieldRefused, Counted, SoundTuple, TupleRefused, ZeroField, ZeroRest, ZeroTuple, KnownCode, HasTemplate, HasEntry, SoundParts, ZeroParts, SoundCall, CallRefused, FaultRule, FaultRules, EntryRules}
 use Rattle.tuple.specs.FaultLaws.FieldRefused.{unknown-head, undefined-field, beyond-kind}
 use Rattle.tuple.specs.FaultLaws.TupleRefused.{miscounted, at-field}
 use Rattle.tuple.specs.FaultLaws.HasEntry.{of-out, of-cas}
 use Rattle.tuple.specs.FaultLaws.CallRefused.{unknown-code, in-template, in-entry, not-zero}
 use Rattle.tuple.specs.Refusals.{numberOf, refusal}
 use Rattle.tuple.specs.Shapes.{field}
-use Rattle.tuple.proofs.NoFault.{between}
+use Rattle.tuple.proofs.NoFault.{between, absent}
 use Rattle.tuple.proofs.RefusalLaws.{numbered}
 
 -- ---- what a fault says, by whether it is one
@@ -402,4 +402,20 @@ fault-rules call t e =
     record {
       none = exactly-none (SoundCall call) (CallRefused call) (call-apart call) (callFault call) (call-says call t e);
       some = exactly-some (SoundCall call) (CallRefused call) (call-apart call) (call-one call) (callFault call) (call-says call t e);
+    }
+
+-- ---- a tuple of a space
+
+pub entry-rules : EntryRules
+unfolding isEntry
+entry-rules tuple six =
+    let sound = exactly-none (SoundTuple true tuple) (TupleRefused true tuple) (λ r. tuple-apart true tuple) (tupleFault true tuple) (tuple-says true tuple six) in
+    record {
+      entry = (
+        λ h. let parts = and-eq-true-iff (isAbsent (tupleFault true tuple)) (restBlank tuple true) .0 h in
+            (sound .0 (absent (tupleFault true tuple) (parts .0)), used-rest tuple six .0 (parts .1)),
+        λ e. and-eq-true-iff (isAbsent (tupleFault true tuple)) (restBlank tuple true) .1 (ap isAbsent (sound .1 (e .0)), used-rest tuple six .1 (e .1)),
+      );
+      used = used-rest tuple six;
+      unused = unused-rest tuple six;
     }

@@ -1,5 +1,5 @@
 -- Document 01, "Fields and tuples", "Bytes" and "What is returned, and for what", rows 3 to 5: when a call that is handed in has no fault, and which of
--- its faults comes first, in 01's words and numbers. `FaultRule` is the claim.
+-- its faults comes first, in 01's words and numbers. `FaultRules` is the claim, and `EntryRules` of the tuples that a space holds.
 use mathlib.Core.Path.{_≡_}
 use mathlib.Core.Bool.{Bool, true, false}
 use mathlib.Core.Logic.{_↔_}
@@ -10,7 +10,7 @@ use Rattle.tuple.specs.declared.field.Field.{Field}
 use Rattle.tuple.specs.declared.field.Tuple.{Tuple}
 use Rattle.tuple.specs.declared.field.Call.{Call}
 use Rattle.tuple.specs.declared.refusal.Refusal.{Refusal}
-use Rattle.tuple.specs.Faults.{callFault}
+use Rattle.tuple.specs.Faults.{callFault, restBlank, isEntry}
 use Rattle.tuple.specs.Refusals.{numberOf}
 use Rattle.tuple.specs.Shapes.{field}
 
@@ -114,3 +114,14 @@ pub record FaultRule (call : Call) : Type 0 where
 
 abbrev pub FaultRules : Type 0
 FaultRules = (call : Call) → length (call .template .fields) ≡ 6 → length (call .entry .fields) ≡ 6 → FaultRule call
+
+-- ---- a tuple of a space
+
+-- of a tuple of six places: it is an entry exactly when it is sound as one and its unused parts are zero; and what the test of unused parts says
+pub record EntryRule (tuple : Tuple) : Type 0 where
+  pub entry : (isEntry tuple ≡ true) ↔ (SoundTuple true tuple × ZeroRest tuple)
+  pub used : (restBlank tuple true ≡ true) ↔ ZeroRest tuple
+  pub unused : (restBlank tuple false ≡ true) ↔ ZeroTuple tuple
+
+abbrev pub EntryRules : Type 0
+EntryRules = (tuple : Tuple) → length (tuple .fields) ≡ 6 → EntryRule tuple

@@ -99,6 +99,11 @@ impl Board {
     /// then 8.
     pub fn call(&mut self, call: &Call) -> Result<Answer, Refusal> {
         self.check()?;
+        self.obey(call)
+    }
+
+    /// The same on a board that nobody else writes, and so is well formed.
+    pub fn obey(&mut self, call: &Call) -> Result<Answer, Refusal> {
         let code = call.check()?;
         if !self.config.has_seat(call.process.into()) {
             return Err(Refusal::Seat);

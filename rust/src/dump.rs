@@ -91,7 +91,7 @@ fn weak_template(round: u64) -> Tuple {
 
 /// Makes a call; whether it appended its entry.
 fn appends(run: &mut Board, call: &Call) -> bool {
-    run.call(call).is_ok_and(|answer| matches!(answer.kind, AnswerKind::Done | AnswerKind::Inserted))
+    run.obey(call).is_ok_and(|answer| matches!(answer.kind, AnswerKind::Done | AnswerKind::Inserted))
 }
 
 #[cfg(test)]

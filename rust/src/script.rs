@@ -1,5 +1,7 @@
 //! A whole script: bytes in, text out (01, "A whole script", and 02, 2.1).
 
+use std::fmt::Write;
+
 use crate::board::{Answer, Board};
 use crate::config::{Config, STRONG};
 use crate::records::Reader;
@@ -42,10 +44,12 @@ fn lines(script: &[u8]) -> Result<String, Refusal> {
         number += 1;
         let read = reader.record();
         let answer = match &read {
-            Ok(call) => Answer::from(board.call(call)),
+            Ok(call) => Answer::from(board.obey(call)),
             Err(refusal) => Answer::from(*refusal),
         };
-        text.push_str(&format!("{number} {}\n", text::answer(&answer)));
+        write!(text, "{number} ").expect("a String takes everything");
+        text::put_answer(&mut text, &answer);
+        text.push('\n');
         if read.is_err() {
             break;
         }

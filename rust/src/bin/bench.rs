@@ -1,5 +1,5 @@
-//! The proved library and the plain Rust version side by side: same inputs, interleaved, medians of many rounds. The plain version tests
-//! the whole board at every call, the proved one wherever a space is handed in (`board_apply`), but not inside a script.
+//! The proved library and the plain Rust version side by side: same inputs, interleaved, medians of many rounds. Where a board is handed in
+//! (b and f) both sides test that it is well formed, at every call; in scripts (c to e), whose board nobody else writes, neither does.
 //!
 //!     bench [the proved program board] [the Rust program board]
 //!
@@ -52,7 +52,7 @@ fn medians(rounds: usize, mut ours: impl FnMut(), mut plain: impl FnMut()) -> (D
 fn line(name: &str, (ours, plain): (Duration, Duration)) {
     let ratio = ours.as_secs_f64() / plain.as_secs_f64();
     let micros = |time: Duration| time.as_secs_f64() * 1e6;
-    println!("{name:<58} {:>11.1} {:>11.1} {ratio:>7.2}", micros(ours), micros(plain));
+    println!("{name:<80} {:>11.1} {:>11.1} {ratio:>7.2}", micros(ours), micros(plain));
 }
 
 /// Records of all four calls, one behind the other.
@@ -184,6 +184,20 @@ fn full_board() -> Board {
     board
 }
 
+/// A bare board that holds so many tuples, and an rdp that goes through all of them.
+fn searched(count: usize) -> (Board, Call) {
+    let mut board = Board::fresh(Config { policy: 0, ..FULL }).expect("a sound set-up");
+    let entry = |k: u64| Tuple::of(&[Field::given(Kind::Count, k), Field::given(Kind::Offset, 1 + k)]);
+    for k in 0..count as u64 {
+        assert_eq!(board.call(&Call::out(1, entry(k))), Ok(Answer::DONE));
+    }
+    let template = Tuple::of(&[Field::given(Kind::Count, MOST_TUPLES as u64), Field::open(Kind::Offset)]);
+    (board, Call::rdp(1, template))
+}
+
+/// How many calls are timed at once where one is too short.
+const CALLS: usize = 100;
+
 fn run_program(program: &str, input: &str) {
     let input = File::open(input).expect("the script");
     let mut run = Command::new(program);
@@ -261,14 +275,17 @@ fn main() {
         assert_eq!(word, "stack");
         return on_a_thread(function.clone(), kilobytes.parse().expect("a number"));
     }
-    println!("{:<58} {:>11} {:>11} {:>7}", "median time in µs", "proved", "plain Rust", "ratio");
+    println!("{:<80} {:>11} {:>11} {:>7}", "median time in µs", "proved", "plain Rust", "ratio");
     let bytes = records();
     line("a  reading 1,000 records", medians(301, || read_ours(&bytes), || read_plain(&bytes)));
 
     let calls = rounds_plain();
     assert_eq!(rounds_ours(), calls);
     let rounds = medians(41, || _ = black_box(rounds_ours()), || _ = black_box(rounds_plain()));
-    line(&format!("b  eight rounds, n = {}, t = {}, all follow: {calls} calls", FULL.n, FULL.t), rounds);
+    line(
+        &format!("b  eight rounds, n = {}, t = {}: {calls} calls, the board tested at each", FULL.n, FULL.t),
+        rounds,
+    );
 
     let long = long_script();
     let (mut text, mut other) = (vec![0; 2_000_000], vec![0; 2_000_000]);
@@ -277,7 +294,10 @@ fn main() {
     assert_eq!(text, other);
     let ours = || _ = black_box(sys::script(&long, &mut text));
     let plain = || _ = black_box(script::run_into(&long, &mut other));
-    line("c  a script of 65,536 bytes, rdp and cas on a full board", medians(21, ours, plain));
+    line(
+        "c  a script of 65,536 bytes, rdp and cas on a full board, which is not tested",
+        medians(21, ours, plain),
+    );
 
     let board = full_board();
     let space = flat::space(&board);
@@ -287,16 +307,28 @@ fn main() {
     let ours = || _ = black_box(sys::dump(space, &mut bytes));
     let plain = || _ = black_box(dump_into(&board, &mut other));
     line(
-        &format!("d  a board of {} tuples written back as a script", board.count),
+        &format!("d  a board of {} tuples, tested once and written back as a script", board.count),
         medians(101, ours, plain),
     );
+
+    for count in [8, 32, MOST_TUPLES] {
+        let (mut board, call) = searched(count);
+        let (space, asked) = (flat::space(&board), flat::call(&call));
+        assert_eq!((sys::apply(space, asked).reply.outcome, board.call(&call)), (1, Ok(Answer::NONE)));
+        let ours = || (0..CALLS).for_each(|_| _ = black_box(sys::apply(black_box(space), asked)));
+        let plain = || (0..CALLS).for_each(|_| _ = black_box(board.call(black_box(&call))));
+        line(
+            &format!("f  {CALLS} rdp that find nothing on {count} tuples, the board tested at each"),
+            medians(101, ours, plain),
+        );
+    }
 
     if let [ours, plain] = arguments.as_slice() {
         let path = std::env::temp_dir().join(format!("board-bench-{}", std::process::id()));
         File::create(&path).and_then(|mut file| file.write_all(&long)).expect("a temporary file");
         let name = path.to_str().expect("a plain path");
         let times = medians(21, || run_program(ours, name), || run_program(plain, name));
-        line("e  the script through the programs", times);
+        line("e  the script of c through the programs, from standard input to standard output", times);
         stacks(ours, name);
         std::fs::remove_file(&path).expect("the temporary file");
     }

@@ -1,5 +1,5 @@
-//! The proved library and the plain version on random inputs, each kind with its own seed. Every input's whole answer, and all
-//! that is left behind, must be equal. `SEED=7 rust/check` takes other inputs.
+//! The proved library and the plain version on random inputs, each kind with its own seed, and on some that are enumerated. Every input's
+//! whole answer, and all that is left behind, must be equal. `SEED=7 rust/check` takes other inputs.
 
 mod common;
 

@@ -237,7 +237,7 @@ board_read_call board_read(const uint8_t *bytes, size_t length, size_t at);
 uint64_t board_write(board_call call, uint8_t *buffer, size_t room);
 
 /* Puts a script whose run ends in the board at the start of the buffer: the script's length. Refused, and the buffer as before: 1, then 15, then 14,
- * then 10. Stack: 68 KB. */
+ * then 10. Stack: 96 KB. */
 uint64_t board_dump(board_space space, uint8_t *buffer, size_t room);
 
 #endif

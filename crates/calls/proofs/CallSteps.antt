@@ -2,7 +2,7 @@
 use mathlib.Core.Path.{_≡_, refl}
 use Prim.Native.Nat.{ℕ, _+_, _≤_, _<_}
 use native.Mathlib.Omega.{arith}
-use mathlib.Core.Bool.{Bool, true, false, not, _&&_, _||_, and-eq-true-iff}
+use mathlib.Core.Bool.{Bool, true, false, cond, not, _&&_, _||_, and-eq-true-iff}
 use mathlib.Core.List.{List, [], _∷_, _++_, List·Memᴰ·append-cases, List·Memᴰ·eq-of-singleton}
 use mathlib.Core.Logic.{inl, inr, ⊎-elim}
 use lib.ListN.{length, take, length-append, length-take, length-drop}
@@ -41,7 +41,7 @@ use Rattle.tuple.specs.declared.reply.Outcome.{Outcome}
 use Rattle.tuple.specs.declared.reply.Outcome.the-variants as outcome
 use Rattle.tuple.specs.Bounds.{places, capacity}
 use Rattle.tuple.specs.Faults.{unless, first, knownHead, isDefined, fieldFault, fieldsFault, tupleFault, partFault, usesTemplate, usesEntry, usedFault, restBlank, callFault, isEntry}
-use Rattle.tuple.specs.Fields.{out, rdp, inp, cas, largestOf}
+use Rattle.tuple.specs.Fields.{out, rdp, inp, cas, largestOf, blankTuple}
 use Rattle.tuple.specs.Matching.{oldestOf}
 use Rattle.tuple.specs.Refusals.{numberOf, refusal}
 use Rattle.tuple.proofs.MatchRules.{oldest-rule}
@@ -115,11 +115,14 @@ abbrev Moved : List Tuple → Call → Effect → Type 0
 Moved tuples call does = Moves tuples call (does .reply .outcome) (does .change)
 
 module _ (tuples : List Tuple) (call : Call) where
+  -- by a test that says whether there is room
+  append-by : {how : Outcome} (room : Bool) → (room ≡ true → length tuples < 128) → (room ≡ false → 128 ≤ length tuples) → Puts tuples call how
+      → Moved tuples call (cond room (effects.answered how blankTuple Append) (effects.refuses (refusal 8)))
+  append-by true some none p = adds p (some refl)
+  append-by false some none p = full p (none refl)
+
   append-moves : {how : Outcome} → Puts tuples call how → Moved tuples call (effects.appends how (length tuples))
-  append-moves p =
-      cases (ltb (length tuples) capacity)
-      (λ e. rw e (adds p (ltb-true (length tuples) capacity e)))
-      (λ e. rw e (full p (ltb-false (length tuples) capacity e)))
+  append-moves p = append-by _ (ltb-true (length tuples) 128) (ltb-false (length tuples) 128) p
 
   rdp-moves : call .code ≡ rdp → (found : Found) → Moved tuples call (effects.rdpEffect tuples found)
   rdp-moves e (At i) = reads e

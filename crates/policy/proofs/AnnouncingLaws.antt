@@ -111,7 +111,7 @@ module _ (config : Config) (tuples : List Tuple) (call : Call) (five : config .p
   -- what is owed, by what is announced
   due-by : (said : Announced) → announcedOf tuples process ≡ said → isDue config tuples call ≡ isDueBy process call (waiting tuples process said)
   unfolding isDue owed
-  due-by said e = rw (eq-eqb (config .policy) 5 five, e)
+  due-by said e = rw (e, five) refl
 
   due-means : (said : Announced) → announcedOf tuples process ≡ said → isDue config tuples call ≡ true → Helps config tuples call ⊎ Alone config tuples call
   due-means Silent e due =

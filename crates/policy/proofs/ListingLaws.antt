@@ -232,7 +232,7 @@ cas-permitted config tuples call lists e =
 -- under policy 4 nothing is owed
 pub nothing-owed : (config : Config) (tuples : List Tuple) (call : Call) → config .policy ≡ 4 → isDue config tuples call ≡ isOwn call
 unfolding isDue owed
-nothing-owed config tuples call is-four = rw (ne-eqb (config .policy) 5 (λ five. omega arith))
+nothing-owed config tuples call is-four = rw is-four refl
 
 pub list-rdp-rule : ListRdpRule
 unfolding shared

@@ -1,6 +1,6 @@
 // A call on a space: the refusals in their order, then what the call does.
 ghost use mathlib.Core.Path.{_≡_};
-ghost use Rattle.calls.specs.Turns.{firstRefusal, judged, carriedBy, applied};
+ghost use Rattle.calls.specs.Turns.{firstRefusal, judged, applied};
 use crate::change::carry_out_unchecked;
 use crate::effect::Effect;
 use crate::effect::perform;
@@ -24,10 +24,18 @@ pub struct Applied {
 pub fn apply(space: Space, call: Call) -> Applied
     ensures { λ r. ⌜ r ≡ applied space call ⌝ }
 {
-    if !space.is_well_formed() {
-        return carried(space, call, refused(Refusal::Unsound));
+    let effect = if space.is_well_formed() {
+        judge_unchecked(space, call)
+    } else {
+        refused(Refusal::Unsound)
+    };
+    let reply = effect.reply;
+    let change = effect.change;
+    let entry = call.entry;
+    Applied {
+        reply,
+        space: carry_out_unchecked(space, entry, change),
     }
-    carried(space, call, judge_unchecked(space, call))
 }
 
 // What a call on a space is answered, and what becomes of the tuples. Of the space the configuration and the count are tested, and not its
@@ -61,17 +69,4 @@ fn first_refusal(space: Space, call: Call) -> Verdict
         return Verdict::Refuse(Refusal::Stranger);
     }
     verdict(space, call)
-}
-
-// The reply, and the space with what becomes of its tuples carried out.
-fn carried(space: Space, call: Call, effect: Effect) -> Applied
-    ensures { λ r. ⌜ r ≡ carriedBy space call effect ⌝ }
-{
-    let reply = effect.reply;
-    let change = effect.change;
-    let entry = call.entry;
-    Applied {
-        reply,
-        space: carry_out_unchecked(space, entry, change),
-    }
 }

@@ -1,7 +1,9 @@
 // A space: its configuration and its tuples, oldest first, with blanks behind them.
 ghost use mathlib.Core.Path.{_≡_};
+ghost use Prim.Native.Nat.{_≤_};
 ghost use mathlib.Core.List.{[]};
-ghost use Rattle.space.specs.Spaces.{spaceOf, placeSound, placesFrom, wellFormed, freshOf};
+ghost use Rattle.space.specs.Spaces.{spaceOf, placesFrom, wellFormed, freshOf};
+ghost use Rattle.tuple.specs.Bounds.{capacity};
 use crate::config::Config;
 use tuple::Refusal;
 use tuple::TUPLES;
@@ -71,26 +73,24 @@ impl Space {
 
 // Whether each used place holds an entry, and each other place nothing.
 fn places_sound(space: Space) -> bool
+    requires { ⌜ space .count ≤ capacity ⌝ }
     ensures { λ r. ⌜ r ≡ placesFrom (space .count) (space .tuples) ⌝ }
 {
     let count = space.count;
     let mut i = 0;
+    while i < count {
+        let tuple = space.tuples[i];
+        if !tuple.is_entry() {
+            return false;
+        }
+        i += 1;
+    }
     while i < TUPLES {
         let tuple = space.tuples[i];
-        if !place_sound(tuple, i < count) {
+        if !tuple.is_unused() {
             return false;
         }
         i += 1;
     }
     true
-}
-
-fn place_sound(tuple: Tuple, used: bool) -> bool
-    ensures { λ r. ⌜ r ≡ placeSound tuple used ⌝ }
-{
-    if used {
-        tuple.is_entry()
-    } else {
-        tuple.is_unused()
-    }
 }

@@ -1,13 +1,14 @@
 -- What a field, a tuple and a call without fault are: each test that their faults are made of passed (`FaultLaws` says what that means, in numbers). From the
 -- definitions of faults alone.
-use mathlib.Core.Path.{_≡_, refl}
+use mathlib.Core.Path.{_≡_, refl, sym, _∙_}
 use Prim.Native.Nat.{ℕ, zero, suc, _≤_, _<_}
 use native.Mathlib.Omega.{arith}
 use mathlib.Core.Bool.{Bool, true, false, false≢true, not, _&&_, _||_, or-false, and-eq-true-iff}
 use mathlib.Core.List.{List, [], _∷_}
-use lib.ListN.{take, getD}
+use lib.ListN.{take, drop, getD}
 use lib.Dec.{leb}
 use borrow.Author.Tests.{leb-true, not-true}
+use borrow.Table.Steps.{cases}
 use Rattle.tuple.specs.declared.fault.Fault.{Fault}
 use Rattle.tuple.specs.declared.fault.Fault.the-variants.{Absent, Present}
 use Rattle.tuple.specs.declared.field.Field.{Field}
@@ -17,7 +18,7 @@ use Rattle.tuple.specs.declared.refusal.Refusal.{Refusal}
 use Rattle.tuple.specs.declared.refusal.Refusal.the-variants.{Beyond, Unknown, Misshapen}
 use Rattle.tuple.specs.Fields.{word, processSet, formal, out, cas, largestOf, blankField}
 use Rattle.tuple.specs.Bounds.{places}
-use Rattle.tuple.specs.Faults.{unless, first, knownHead, isDefined, fieldFault, fieldsFault, tupleFault, partFault, usesTemplate, usesEntry, usedFault, restBlank, callFault, isAbsent, isEntry}
+use Rattle.tuple.specs.Faults.{unless, first, knownHead, isDefined, fieldFault, fieldsFault, tupleFault, partFault, usesTemplate, usesEntry, usedFault, placeBlank, restFrom, restBlank, callFault, isAbsent, isEntry}
 
 -- ---- tests
 
@@ -100,6 +101,20 @@ unfolding isEntry
 entry-small tuple i entry below d =
     let sound = tuple-sound true tuple (absent _ (and-eq-true-iff (isAbsent (tupleFault true tuple)) _ .0 entry .0)) in
     small-field (tuple .count) (tuple .fields) i (sound .fields) below d
+
+-- its used places are all defined: those behind the count decide whether its unused parts are zero
+entry-rest : (count : ℕ) (fields : List Field) → fieldsFault true (take count fields) ≡ Absent → restFrom 0 (drop count fields) ≡ restFrom count fields
+unfolding restFrom placeBlank
+entry-rest zero fields h = refl
+entry-rest (suc count) [] h = refl
+entry-rest (suc count) (field ∷ fields) h =
+    let parts = fields-sound true field (take count fields) h in
+    let given : isDefined field ≡ true = cases (isDefined field) (λ e. e) (λ e. absurd (false≢true (sym (parts .0 .shaped e)))) in
+    entry-rest count fields (parts .1) ∙ sym (rw given refl)
+
+pub entry-blank : (tuple : Tuple) → tupleFault true tuple ≡ Absent → restFrom 0 (drop (tuple .count) (tuple .fields)) ≡ isEntry tuple
+unfolding isEntry restBlank
+entry-blank tuple h = entry-rest (tuple .count) (tuple .fields) (tuple-sound true tuple h .fields) ∙ sym (rw h refl)
 
 -- ---- the call
 

@@ -1,6 +1,7 @@
 // What is wrong with a call that is handed in: none, or the first of the refusals 3 to 5 in record order, unused parts last.
 ghost use mathlib.Core.Path.{_≡_};
 ghost use mathlib.Core.Bool.{false};
+ghost use lib.ListN.{drop};
 ghost use Rattle.tuple.specs.Faults.{isEntry, fieldFault, tupleFault, partFault, usedFault, callFault, placeBlank, isBlank, restFrom, restBlank, usesTemplate, usesEntry};
 use crate::bounds::FIELDS;
 use crate::field::CAS;
@@ -47,17 +48,21 @@ impl Tuple {
     pub fn is_entry(self) -> bool
         ensures { λ r. ⌜ r ≡ isEntry self ⌝ }
     {
+        let count = self.count;
         if let Fault::Present(_) = tuple_fault(self, true) {
             return false;
         }
-        rest_blank(self, true)
+        blank_from(self, count)
     }
 
     // Whether all of a tuple is zero.
     pub fn is_unused(self) -> bool
         ensures { λ r. ⌜ r ≡ restBlank self false ⌝ }
     {
-        rest_blank(self, false)
+        if self.count != 0 {
+            return false;
+        }
+        blank_from(self, 0)
     }
 }
 
@@ -158,12 +163,10 @@ fn rest_blank(tuple: Tuple, used: bool) -> bool
     ensures { λ r. ⌜ r ≡ restBlank tuple used ⌝ }
 {
     if used {
-        return places_blank(tuple);
+        places_blank(tuple)
+    } else {
+        tuple.is_unused()
     }
-    if tuple.count != 0 {
-        return false;
-    }
-    places_blank(tuple)
 }
 
 // Whether the values of a tuple's undefined fields are zero, and the places behind its count.
@@ -175,6 +178,21 @@ fn places_blank(tuple: Tuple) -> bool
     while i < FIELDS {
         let field = tuple.fields[i];
         if !place_blank(field, i < count) {
+            return false;
+        }
+        i += 1;
+    }
+    true
+}
+
+// Whether all is zero in a tuple's places from one on.
+fn blank_from(tuple: Tuple, start: usize) -> bool
+    ensures { λ r. ⌜ r ≡ restFrom 0 (drop start (tuple .fields)) ⌝ }
+{
+    let mut i = start;
+    while i < FIELDS {
+        let field = tuple.fields[i];
+        if !is_blank(field) {
             return false;
         }
         i += 1;

@@ -1,54 +1,54 @@
--- `calls::apply` meets its contract: refused 1 first of all, and past that what the call is judged to do.
+-- `calls::apply` meets its contract: refused 1 first of all, and past that what the call is judged to do, carried out.
 use borrow.Author.Needs.{needs}
-use mathlib.Core.Path.{sym, ap, _∙_}
-use borrow.Author.Tests.{not-true, not-false}
-use Rattle.calls.specs.Turns.{carriedBy, applied}
+use mathlib.Core.Path.{_≡_, sym, ap, _∙_}
+use mathlib.Core.Bool.{Bool, cond}
+use mathlib.Core.Logic.{⊎-elim}
+use Rattle.calls.specs.declared.effect.Effect.{Effect}
+use Rattle.calls.specs.declared.turn.Applied.{Applied}
+use Rattle.calls.specs.Effects.{refuses}
+use Rattle.calls.specs.Turns.{judged, carriedBy, applied}
+use Rattle.space.specs.declared.space.Space.{Space}
+use Rattle.space.specs.Spaces.{wellFormed}
+use Rattle.tuple.specs.Refusals.{refusal}
 use Rattle.calls.proofs.turn.apply.Statement.{statement}
 use Rattle.calls.proofs.turn.apply.Tie as tie
+
+-- whether the space is well formed decides
+abbrev by : tie.After-is-well-formed → Bool → Effect
+by c test = let a = c .before .args in cond test (judged (a .space) (a .call)) (refuses (refusal 1))
+
+tested : (c : tie.Joined1) → c .if1 .effect ≡ by (c .before) (wellFormed (c .before .before .args .space))
+tested c =
+    let b = c .before in
+    let w = b .is-well-formed .ensures in
+    ⊎-elim (λ f. f .2 ∙ f .1 .ensures ∙ ap (by b) (sym (f .0 .taken) ∙ w)) (λ n. n .2 ∙ n .1 .ensures ∙ ap (by b) (sym (n .0 .left) ∙ w)) (c .if1 .came)
 
 is-well-formed-requires : tie.Need-is-well-formed-requires
 is-well-formed-requires c κs = search needs
 
+judge-unchecked-requires : tie.Need-judge-unchecked-requires
+judge-unchecked-requires c κs = search needs
+
 refused-requires : tie.Need-refused-requires
 refused-requires c κs = search needs
 
-carried-requires : tie.Need-carried-requires
-carried-requires c κs = search needs
+carry-out-unchecked-requires : tie.Need-carry-out-unchecked-requires
+carry-out-unchecked-requires c κs = search needs
 
 returns : tie.Need-returns
 unfolding applied
 returns c =
-    let t = c .before .before in
-    let w = t .before in
-    let a = w .before .args in
-    c .carried .ensures
-    ∙ ap (carriedBy (a .space) (a .call)) (c .before .refused .ensures)
-    ∙ sym (rw (sym (w .is-well-formed .ensures) ∙ not-true _ (t .if1 .taken)))
-
-judge-unchecked-requires : tie.Need-judge-unchecked-requires
-judge-unchecked-requires c κs = search needs
-
-carried-requires-2 : tie.Need-carried-requires-2
-carried-requires-2 c κs = search needs
-
-returns-2 : tie.Need-returns-2
-unfolding applied
-returns-2 c =
-    let e = c .before .before in
-    let w = e .before in
-    let a = w .before .args in
-    c .carried2 .ensures
-    ∙ ap (carriedBy (a .space) (a .call)) (c .before .judge-unchecked .ensures)
-    ∙ sym (rw (sym (w .is-well-formed .ensures) ∙ not-false _ (e .if1 .left)))
+    let j = c .before .before .before in
+    let a = j .before .before .args in
+    ap {B = Applied} (λ (space : Space). record { reply = j .if1 .effect .reply; space = space }) (c .carry-out-unchecked .ensures)
+    ∙ ap (carriedBy (a .space) (a .call)) (tested j)
 
 pub apply-spec : {M : Type 1} → statement M
 apply-spec =
     tie.close
     (tie.spec
     is-well-formed-requires
-    refused-requires
-    carried-requires
-    returns
     judge-unchecked-requires
-    carried-requires-2
-    returns-2)
+    refused-requires
+    carry-out-unchecked-requires
+    returns)

@@ -2,13 +2,13 @@
 -- one call does.
 use mathlib.Core.Path.{_≡_, refl, sym, ap, _∙_, subst}
 use mathlib.Core.Logic.{_⊎_, inl, inr, ⊎-elim}
-use Prim.Native.Nat.{ℕ, zero, suc, _+_, _-_, _≤_, _<_}
+use Prim.Native.Nat.{ℕ, _+_, _-_, _≤_, _<_}
 use native.Mathlib.Omega.{arith}
 use mathlib.Core.Bool.{true, false, and-eq-true-iff}
-use mathlib.Core.List.{List, [], _∷_, _++_, append-nil, append-assoc, List·Memᴰ, List·Memᴰ·head, List·Memᴰ·tail, List·Memᴰ·not-nil, List·Memᴰ·append-cases, List·Memᴰ·eq-of-singleton}
+use mathlib.Core.List.{List, [], _∷_, _++_, append-nil, List·Memᴰ, List·Memᴰ·head, List·Memᴰ·tail, List·Memᴰ·not-nil, List·Memᴰ·append-cases, List·Memᴰ·eq-of-singleton}
 use lib.ListN.{length, getD}
 use lib.Seq.{append-snoc}
-use lib.Dec.{leb, eqb}
+use lib.Dec.{eqb}
 use borrow.Author.Tests.{eqb-true, eqb-false, lt-ltb, le-leb, eq-eqb, ne-eqb}
 use borrow.Table.Steps.{cases}
 use Rattle.calls.specs.declared.turn.Applied.{Applied}
@@ -20,15 +20,13 @@ use Rattle.calls.specs.Turns.{applied, turnsFrom, turns, lastOf, after, 
 use Rattle.calls.proofs.CallLaws.{denied-rule, permitted-applied}
 use Rattle.calls.proofs.ObeyedLaws.{obeyed-rules}
 use Rattle.calls.proofs.ChangeLaws.{carried-rules}
-use Rattle.calls.proofs.ListSteps.{listed-mem, mem-listed, Entry, Orderly, orderly-few, orderly-all, Kind, announcement-other, key, apart-differ, Shared, shared-none, shared-few, Lists, Grown, list-advance, list-keeps}
-use Rattle.calls.proofs.RunSteps.{Run, held-run, fresh-space, fresh-run, after-run}
+use Rattle.calls.proofs.ListSteps.{listed-mem, mem-listed, Orderly, orderly-few, orderly-all, Kind, announcement-other, key, apart-differ, Shared, shared-none, shared-few, Lists, Grown, list-advance, list-keeps}
+use Rattle.calls.proofs.RunSteps.{held-run, fresh-space, fresh-run, after-run}
 use Rattle.calls.proofs.SumLaws.{after-append}
 use Rattle.calls.proofs.Walks.{kept-after, turns-behind}
-use Rattle.policy.specs.declared.verdicts.Verdict.the-variants.{Permit}
 use Rattle.policy.specs.Laws.{ListCall, Helps, Alone}
 use Rattle.policy.specs.Laws.Denial.{denied}
 use Rattle.policy.specs.Listing.{isListTemplate, listTemplate, positions, preferred, owed, isDue, isListCall, isNew, begins, follows, mayList, shared}
-use Rattle.policy.specs.Policies.{verdictOn}
 use Rattle.policy.proofs.AnnouncingLaws.{lists-five, announce-rule, due-rule}
 use Rattle.policy.proofs.ListingLaws.{list-template, list-match, match-list, cas-permitted, nothing-owed, list-denied}
 use Rattle.policy.proofs.PolicyLaws.{under-shared}
@@ -42,22 +40,20 @@ use Rattle.space.specs.Spaces.{held, spaceOf, wellFormed}
 use Rattle.space.proofs.AnnouncementLaws.{announcement-parts, announcement-rule}
 use Rattle.space.proofs.ConfigLaws.{sound-range, has-list-rule}
 use Rattle.space.proofs.ListLaws.{list-tuple}
-use Rattle.space.proofs.ShapeLaws.{small-code}
 use Rattle.space.proofs.SpaceRules.{Lawful, held-of, formed-of, stands, place}
 use Rattle.tuple.specs.declared.fault.Fault.the-variants.{Absent}
 use Rattle.tuple.specs.declared.field.Tuple.{Tuple}
 use Rattle.tuple.specs.declared.field.Call.{Call}
 use Rattle.tuple.specs.declared.matching.Found.the-variants.{At, Nowhere}
-use Rattle.tuple.specs.declared.reply.Outcome.the-variants.{Done, Inserted, Held, Refused}
+use Rattle.tuple.specs.declared.reply.Outcome.the-variants.{Done, Inserted, Refused}
 use Rattle.tuple.specs.declared.reply.Reply.{Reply}
 use Rattle.tuple.specs.Bounds.{capacity, largestCount, largestCode}
-use Rattle.tuple.specs.Faults.{isEntry, callFault, usedFault, usesTemplate, usesEntry, partFault, tupleFault, fieldsFault, fieldFault, knownHead, restBlank, restFrom, placeBlank, isBlank}
-use Rattle.tuple.specs.Fields.{cas, count, defined, largestOf, blankTuple}
+use Rattle.tuple.specs.Faults.{callFault, usedFault, usesTemplate, usesEntry, partFault, tupleFault, fieldsFault, fieldFault, knownHead, restBlank, restFrom, placeBlank, isBlank}
+use Rattle.tuple.specs.Fields.{cas, count, offset, largestOf, blankTuple}
 use Rattle.tuple.specs.Matching.{oldestOf, matches}
 use Rattle.tuple.specs.Offsets.{bottom}
 use Rattle.tuple.specs.Refusals.{refusal}
-use Rattle.tuple.specs.Shapes.{field, is}
-use Rattle.tuple.proofs.FieldLaws.{kind-state}
+use Rattle.tuple.specs.Shapes.{is}
 use Rattle.tuple.proofs.MatchRules.{oldest-rule}
 use Rattle.tuple.proofs.NoFault.{entry-small}
 
@@ -353,12 +349,6 @@ own-true : (process : ℕ) → eqb process process ≡ true
 own-true process = eq-eqb process process refl
 
 -- a count of an entry is at most the largest
-count-small : (tuple : Tuple) (i : ℕ) → isEntry tuple ≡ true → i < tuple .count → is count defined (field tuple i) ≡ true → field tuple i .value ≤ largestCount
-unfolding largestOf
-count-small tuple i entry below shape =
-    let head = kind-state count defined (field tuple i) shape in
-    rw (head .0) at (entry-small tuple i entry below (eq-eqb _ _ (head .1)))
-
 -- ---- policy 4: what is filled is held
 
 pub next-listed : NextListed
@@ -410,6 +400,7 @@ handed-ins config is-four =
 -- ---- policy 5: what is due at the next position
 
 pub next-dues : NextDues
+unfolding largestOf
 next-dues config calls caller safe five room one most =
     let shares = lists-five config five in
     let end = left config safe shares calls in
@@ -425,9 +416,9 @@ next-dues config calls caller safe five room one most =
           let tuple = getD tuples (oldest .at) blankTuple in
           let parts = announcement-parts tuple (oldest .shape) in
           let entry = end .lawful .entries tuple (stands tuples (oldest .at) (oldest .inside)) in
-          let low : process ≤ largestCount = rw (oldest .by) at (count-small tuple 1 entry (omega (arith, parts .counted)) (parts .process)) in
-          let small : serial ≤ largestCount = rw (oldest .with-serial) at (count-small tuple 2 entry (omega (arith, parts .counted)) (parts .serial)) in
-          let inside : code ≤ largestCode = rw (oldest .of) at (small-code tuple 3 entry (omega (arith, parts .counted)) (parts .shift)) in
+          let low : process ≤ largestCount = rw (oldest .by) at (entry-small count tuple 1 entry (omega (arith, parts .counted)) (parts .process)) in
+          let small : serial ≤ largestCount = rw (oldest .with-serial) at (entry-small count tuple 2 entry (omega (arith, parts .counted)) (parts .serial)) in
+          let inside : code ≤ largestCode = rw (oldest .of) at (entry-small offset tuple 3 entry (omega (arith, parts .counted)) (parts .shift)) in
           let some : code ≡ bottom → ⊥ = λ e. parts .some (oldest .of ∙ e) in
           let list = list-call config safe shares tuples (end .shared) (end .lawful) caller position process serial code (omega arith) (omega arith) (omega arith) one most low small some inside unlisted in
           rw (end .lists, end .space) (next-inserted config safe shares tuples (end .shared) (end .lawful) caller position process serial code (omega arith) (omega arith) (omega arith) one most low small some inside unlisted

@@ -27,10 +27,9 @@ use Rattle.space.proofs.SpaceRules.{Lawful, held-of, formed-of}
 use Rattle.tuple.specs.declared.field.Tuple.{Tuple}
 use Rattle.tuple.specs.declared.field.Call.{Call}
 use Rattle.tuple.specs.Bounds.{places, largestCount}
-use Rattle.tuple.specs.Faults.{isDefined, knownHead, fieldFault, fieldsFault, tupleFault, placeBlank, restFrom, restBlank, isEntry}
+use Rattle.tuple.specs.Faults.{knownHead, fieldFault, fieldsFault, tupleFault, placeBlank, restFrom, restBlank, isEntry}
 use Rattle.tuple.specs.Fields.{count, defined, largestOf}
 use Rattle.tuple.specs.Shapes.{field, is}
-use Rattle.tuple.proofs.FieldLaws.{kind-state}
 use Rattle.tuple.proofs.NoFault.{entry-small}
 use Rattle.varint.specs.Writing.{widthOf}
 
@@ -74,9 +73,7 @@ module _ (tuple : Tuple) (entry : isEntry tuple ≡ true) (long : length (tuple 
   unfolding largestOf
   wide-at i below =
       let parts = wide .each i below in
-      let head = kind-state count defined (field tuple i) (parts .0) in
-      let here : isDefined (field tuple i) ≡ true = rw (head .1) refl in
-      let few : field tuple i .value ≤ largestCount = rw (head .0) at (entry-small tuple i entry (omega (arith, wide .six)) here) in
+      let few : field tuple i .value ≤ largestCount = entry-small count tuple i entry (omega (arith, wide .six)) (parts .0) in
       omega (arith, value-length count (field tuple i) (parts .0) (omega arith), five-bytes (field tuple i .value) (parts .1) few)
 
   wide-tuple : length (tupleBytes tuple) ≡ 37

@@ -70,8 +70,7 @@ unfolding isDecision largestOf
 small-set tuple entry shape =
     let whole = and-eq-true-iff (eqb (tuple .count) 4 && says word decision (field tuple 0) && is count defined (field tuple 1) && is offset defined (field tuple 2)) _ .0 shape in
     let counted = four (eqb (tuple .count) 4) (says word decision (field tuple 0)) (is count defined (field tuple 1)) _ (whole .0) .0 in
-    let head = and-eq-true-iff (eqb (field tuple 3 .kind) processSet) (eqb (field tuple 3 .state) defined) .0 (whole .1) in
-    rw (eqb-true (field tuple 3 .kind) processSet (head .0)) at (entry-small tuple 3 entry (omega (arith, eqb-true (tuple .count) 4 counted)) (head .1))
+    entry-small processSet tuple 3 entry (omega (arith, eqb-true (tuple .count) 4 counted)) (whole .1)
 
 -- ---- one state
 

@@ -55,13 +55,8 @@ proposal-made tuple six rest = (
   λ e. ap isProposal e ∙ refl,
 )
 
--- ---- the offset of an entry is at most the largest
-
-pub small-code : (tuple : Tuple) (i : ℕ) → isEntry tuple ≡ true → i < tuple .count → is offset defined (field tuple i) ≡ true → field tuple i .value ≤ largestCode
-unfolding largestOf
-small-code tuple i entry below shape =
-    let parts = and-eq-true-iff (eqb (field tuple i .kind) offset) _ .0 shape in
-    rw (eqb-true (field tuple i .kind) offset (parts .0)) at (entry-small tuple i entry below (parts .1))
+-- ---- the offset of a proposal is at most the largest
 
 pub small-offset : (tuple : Tuple) → isEntry tuple ≡ true → isProposal tuple ≡ true → proposedCode tuple ≤ largestCode
-small-offset tuple entry proposal = let parts = proposal-parts tuple proposal in small-code tuple 3 entry (omega arith) (parts .2)
+unfolding largestOf
+small-offset tuple entry proposal = let parts = proposal-parts tuple proposal in entry-small offset tuple 3 entry (omega arith) (parts .2)

@@ -6,8 +6,8 @@ use native.Mathlib.Omega.{arith}
 use mathlib.Core.Bool.{Bool, true, false, false≢true, not, _&&_, _||_, or-false, and-eq-true-iff}
 use mathlib.Core.List.{List, [], _∷_}
 use lib.ListN.{take, drop, getD}
-use lib.Dec.{leb}
-use borrow.Author.Tests.{leb-true, not-true}
+use lib.Dec.{leb, eqb}
+use borrow.Author.Tests.{leb-true, eqb-true, not-true}
 use borrow.Table.Steps.{cases}
 use Rattle.tuple.specs.declared.fault.Fault.{Fault}
 use Rattle.tuple.specs.declared.fault.Fault.the-variants.{Absent, Present}
@@ -16,8 +16,9 @@ use Rattle.tuple.specs.declared.field.Tuple.{Tuple}
 use Rattle.tuple.specs.declared.field.Call.{Call}
 use Rattle.tuple.specs.declared.refusal.Refusal.{Refusal}
 use Rattle.tuple.specs.declared.refusal.Refusal.the-variants.{Beyond, Unknown, Misshapen}
-use Rattle.tuple.specs.Fields.{word, processSet, formal, out, cas, largestOf, blankField}
+use Rattle.tuple.specs.Fields.{word, processSet, defined, formal, out, cas, largestOf, blankField}
 use Rattle.tuple.specs.Bounds.{places}
+use Rattle.tuple.specs.Shapes.{field, is}
 use Rattle.tuple.specs.Faults.{unless, first, knownHead, isDefined, fieldFault, fieldsFault, tupleFault, partFault, usesTemplate, usesEntry, usedFault, placeBlank, restFrom, restBlank, callFault, isAbsent, isEntry}
 
 -- ---- tests
@@ -94,13 +95,14 @@ small-field (suc n) (field ∷ fields) zero sound below d = fields-sound true fi
 small-field (suc n) (field ∷ fields) (suc i) sound below d =
     small-field n fields i (fields-sound true field (take n fields) sound .1) (omega arith) d
 
--- the value of each defined field is at most the largest of its kind
-pub entry-small : (tuple : Tuple) (i : ℕ) → isEntry tuple ≡ true → i < tuple .count → isDefined (getD (tuple .fields) i blankField) ≡ true
-    → getD (tuple .fields) i blankField .value ≤ largestOf (getD (tuple .fields) i blankField .kind)
+-- the value of a defined field of a kind is at most the kind's largest
+pub entry-small : (kind : ℕ) (tuple : Tuple) (i : ℕ) → isEntry tuple ≡ true → i < tuple .count → is kind defined (field tuple i) ≡ true
+    → field tuple i .value ≤ largestOf kind
 unfolding isEntry
-entry-small tuple i entry below d =
+entry-small kind tuple i entry below h =
     let sound = tuple-sound true tuple (absent _ (and-eq-true-iff (isAbsent (tupleFault true tuple)) _ .0 entry .0)) in
-    small-field (tuple .count) (tuple .fields) i (sound .fields) below d
+    let parts = and-eq-true-iff (eqb (field tuple i .kind) kind) (isDefined (field tuple i)) .0 h in
+    rw (eqb-true (field tuple i .kind) kind (parts .0)) at (small-field (tuple .count) (tuple .fields) i (sound .fields) below (parts .1))
 
 -- its used places are all defined: those behind the count decide whether its unused parts are zero
 entry-rest : (count : ℕ) (fields : List Field) → fieldsFault true (take count fields) ≡ Absent → restFrom 0 (drop count fields) ≡ restFrom count fields

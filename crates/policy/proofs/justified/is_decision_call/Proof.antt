@@ -1,6 +1,5 @@
 -- `policy::justified::is_decision_call` meets its contract: its tests are the definition's.
 use borrow.Author.Needs.{needs}
-use mathlib.Core.Path.{_∙_}
 use Rattle.policy.specs.Justified.{isDecisionCall}
 use Rattle.policy.proofs.justified.is_decision_call.Statement.{statement}
 use Rattle.policy.proofs.justified.is_decision_call.Tie as tie
@@ -31,7 +30,7 @@ all-five-requires c κs = search needs
 
 returns : tie.Need-returns
 unfolding isDecisionCall
-returns c = c .all-five .ensures ∙ cc (c .before .before .before .before .before .is-decision-template .ensures, c .before .before .before .before .is-decision .ensures, c .before .before .before .same-round .ensures, c .before .before .within .ensures, c .before .decidable .ensures)
+returns c = rw (c .before .before .before .before .before .is-decision-template .ensures, c .before .before .before .before .is-decision .ensures, c .before .before .before .same-round .ensures, c .before .before .within .ensures, c .before .decidable .ensures) at (c .all-five .ensures)
 
 pub is-decision-call-spec : {M : Type 1} → statement M
 is-decision-call-spec =

@@ -1,6 +1,5 @@
 -- `policy::justified::is_own_proposal` meets its contract: its tests are the definition's.
 use borrow.Author.Needs.{needs}
-use mathlib.Core.Path.{_∙_}
 use Rattle.policy.specs.Justified.{isOwnProposal}
 use Rattle.policy.proofs.justified.is_own_proposal.Statement.{statement}
 use Rattle.policy.proofs.justified.is_own_proposal.Tie as tie
@@ -28,7 +27,7 @@ all-four-requires c κs = search needs
 
 returns : tie.Need-returns
 unfolding isOwnProposal
-returns c = c .all-four .ensures ∙ cc (c .before .before .before .before .is-proposal .ensures, c .before .offered .ensures)
+returns c = rw (c .before .before .before .before .is-proposal .ensures, c .before .offered .ensures) at (c .all-four .ensures)
 
 pub is-own-proposal-spec : {M : Type 1} → statement M
 is-own-proposal-spec =

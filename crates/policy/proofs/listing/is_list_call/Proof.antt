@@ -1,6 +1,5 @@
 -- `policy::listing::is_list_call` meets its contract: its tests are the definition's.
 use borrow.Author.Needs.{needs}
-use mathlib.Core.Path.{_∙_}
 use Rattle.policy.specs.Listing.{isListCall}
 use Rattle.policy.proofs.listing.is_list_call.Statement.{statement}
 use Rattle.policy.proofs.listing.is_list_call.Tie as tie
@@ -22,7 +21,7 @@ all-four-requires c κs = search needs
 
 returns : tie.Need-returns
 unfolding isListCall
-returns c = c .all-four .ensures ∙ cc (c .before .before .before .before .is-list-template .ensures, c .before .before .before .is-list-tuple .ensures, c .before .before .same-position .ensures)
+returns c = rw (c .before .before .before .before .is-list-template .ensures, c .before .before .before .is-list-tuple .ensures, c .before .before .same-position .ensures) at (c .all-four .ensures)
 
 pub is-list-call-spec : {M : Type 1} → statement M
 is-list-call-spec =

@@ -28,7 +28,7 @@ unfolding mayAnnounce
 returns c =
     let s = c .before in
     let o = s .before in
-    c .all-four .ensures ∙ cc (o .before .before .is-announcement .ensures, s .is-silent .ensures ∙ ap isSilent (o .oldest-announced .ensures))
+    rw (o .before .before .is-announcement .ensures, s .is-silent .ensures ∙ ap isSilent (o .oldest-announced .ensures)) at (c .all-four .ensures)
 
 pub may-announce-spec : {M : Type 1} → statement M
 may-announce-spec =

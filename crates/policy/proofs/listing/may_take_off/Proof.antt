@@ -53,7 +53,7 @@ front c =
     let any : u .is-undefined .result ≡ isUndefined count (field (a .call .template) 2) = u .is-undefined .ensures in
     let all : c .all-five .result
     ≡ (eqb (a .config .policy) 5 && eqb (a .call .template .count) 4 && says word announcing (field (a .call .template) 0) && says count (a .call .process) (field (a .call .template) 1) && isUndefined count (field (a .call .template) 2)) =
-    c .all-five .ensures ∙ cc (named, own, any) in
+    rw (named, own, any) at (c .all-five .ensures) in
     ap (λ (shaped : Bool). shaped && isUndefined offset (field (a .call .template) 3)) (sym all)
 
 returns : tie.Need-returns

@@ -1,6 +1,5 @@
 -- `policy::shape::is_decision` meets its contract: its tests are the definition's.
 use borrow.Author.Needs.{needs}
-use mathlib.Core.Path.{_∙_}
 use Rattle.policy.specs.Shapes.{isDecision}
 use Rattle.policy.proofs.shape.is_decision.Statement.{statement}
 use Rattle.policy.proofs.shape.is_decision.Tie as tie
@@ -36,7 +35,7 @@ returns : tie.Need-returns
 unfolding isDecision
 returns c =
     let s = c .before .before .before .before in
-    c .all-five .ensures ∙ cc (s .says .ensures, c .before .before .before .is .ensures, c .before .before .is2 .ensures, c .before .is3 .ensures)
+    rw (s .says .ensures, c .before .before .before .is .ensures, c .before .before .is2 .ensures, c .before .is3 .ensures) at (c .all-five .ensures)
 
 pub is-decision-spec : {M : Type 1} → statement M
 is-decision-spec =

@@ -1,6 +1,5 @@
 -- `policy::shape::is_decision_template` meets its contract: its tests are the definition's.
 use borrow.Author.Needs.{needs}
-use mathlib.Core.Path.{_∙_}
 use Rattle.policy.specs.Shapes.{isDecisionTemplate}
 use Rattle.policy.proofs.shape.is_decision_template.Statement.{statement}
 use Rattle.policy.proofs.shape.is_decision_template.Tie as tie
@@ -36,7 +35,7 @@ returns : tie.Need-returns
 unfolding isDecisionTemplate
 returns c =
     let s = c .before .before .before .before in
-    c .all-five .ensures ∙ cc (s .says .ensures, c .before .before .before .is .ensures, c .before .before .is2 .ensures, c .before .is3 .ensures)
+    rw (s .says .ensures, c .before .before .before .is .ensures, c .before .before .is2 .ensures, c .before .is3 .ensures) at (c .all-five .ensures)
 
 pub is-decision-template-spec : {M : Type 1} → statement M
 is-decision-template-spec =

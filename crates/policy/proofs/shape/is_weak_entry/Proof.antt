@@ -1,6 +1,5 @@
 -- `policy::shape::is_weak_entry` meets its contract: its tests are the definition's.
 use borrow.Author.Needs.{needs}
-use mathlib.Core.Path.{_∙_}
 use Rattle.policy.specs.Shapes.{isWeakEntry}
 use Rattle.policy.proofs.shape.is_weak_entry.Statement.{statement}
 use Rattle.policy.proofs.shape.is_weak_entry.Tie as tie
@@ -30,7 +29,7 @@ returns : tie.Need-returns
 unfolding isWeakEntry
 returns c =
     let s = c .before .before .before in
-    c .all-four .ensures ∙ cc (s .says .ensures, c .before .before .is .ensures, c .before .is2 .ensures)
+    rw (s .says .ensures, c .before .before .is .ensures, c .before .is2 .ensures) at (c .all-four .ensures)
 
 pub is-weak-entry-spec : {M : Type 1} → statement M
 is-weak-entry-spec =

@@ -1,6 +1,5 @@
 -- `policy::weak::is_weak_call` meets its contract: its tests are the definition's.
 use borrow.Author.Needs.{needs}
-use mathlib.Core.Path.{_∙_}
 use Rattle.policy.specs.Weak.{isWeakCall}
 use Rattle.policy.proofs.weak.is_weak_call.Statement.{statement}
 use Rattle.policy.proofs.weak.is_weak_call.Tie as tie
@@ -22,7 +21,7 @@ all-five-requires c κs = search needs
 
 returns : tie.Need-returns
 unfolding isWeakCall
-returns c = c .all-five .ensures ∙ cc (c .before .before .before .before .is-weak-template .ensures, c .before .before .before .is-weak-entry .ensures, c .before .before .same-round .ensures)
+returns c = rw (c .before .before .before .before .is-weak-template .ensures, c .before .before .before .is-weak-entry .ensures, c .before .before .same-round .ensures) at (c .all-five .ensures)
 
 pub is-weak-call-spec : {M : Type 1} → statement M
 is-weak-call-spec =

@@ -49,7 +49,7 @@ front c =
     let third : c .before .before .is2 .result ≡ is count defined (field tuple 2) = c .before .before .is2 .ensures in
     let fourth : c .before .is3 .result ≡ is offset defined (field tuple 3) = c .before .is3 .ensures in
     let all : c .all-five .result ≡ (eqb (tuple .count) 4 && says word announcing (field tuple 0) && is count defined (field tuple 1) && is count defined (field tuple 2) && is offset defined (field tuple 3)) =
-    c .all-five .ensures ∙ cc (said, second, third, fourth) in
+    rw (said, second, third, fourth) at (c .all-five .ensures) in
     ap (λ (shaped : Bool). shaped && not (eqb (field tuple 3 .value) bottom)) (sym all)
 
 returns : tie.Need-returns

@@ -54,7 +54,7 @@ front c =
     let third : c .before .before .is2 .result ≡ is count defined (field tuple 2) = c .before .before .is2 .ensures in
     let fourth : c .before .is3 .result ≡ is count defined (field tuple 3) = c .before .is3 .ensures in
     let all : c .all-five .result ≡ (eqb (tuple .count) 5 && says word listing (field tuple 0) && is count defined (field tuple 1) && is count defined (field tuple 2) && is count defined (field tuple 3)) =
-    c .all-five .ensures ∙ cc (said, second, third, fourth) in
+    rw (said, second, third, fourth) at (c .all-five .ensures) in
     ap (λ (named : Bool). named && is offset defined (field tuple 4)) (sym all)
 
 returns : tie.Need-returns

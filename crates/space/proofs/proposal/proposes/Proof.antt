@@ -1,6 +1,5 @@
 -- `space::proposal::proposes` meets its contract: its tests are the definition's.
 use borrow.Author.Needs.{needs}
-use mathlib.Core.Path.{_∙_}
 use Rattle.space.specs.Proposals.{proposes}
 use Rattle.space.proofs.proposal.proposes.Statement.{statement}
 use Rattle.space.proofs.proposal.proposes.Tie as tie
@@ -25,7 +24,7 @@ all-four-requires c κs = search needs
 
 returns : tie.Need-returns
 unfolding proposes
-returns c = c .all-four .ensures ∙ cc (c .before .is-sought .ensures, c .before .before .before .before .is-proposal .ensures)
+returns c = rw (c .before .is-sought .ensures, c .before .before .before .before .is-proposal .ensures) at (c .all-four .ensures)
 
 pub proposes-spec : {M : Type 1} → statement M
 proposes-spec =

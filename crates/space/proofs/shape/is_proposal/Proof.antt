@@ -1,6 +1,6 @@
 -- `space::shape::is_proposal` meets its contract: its tests are the definition's.
 use borrow.Author.Needs.{needs}
-use mathlib.Core.Path.{_≡_, _∙_}
+use mathlib.Core.Path.{_≡_}
 use Rattle.tuple.specs.Shapes.{field, says}
 use Rattle.space.specs.Shapes.{isProposal}
 use Rattle.tuple.specs.Fields.{word, propose}
@@ -39,7 +39,7 @@ unfolding isProposal
 returns c =
     let s = c .before .before .before .before in
     let said : s .says .result ≡ says word propose (field (s .before .before .before .before .before .args .t1) 0) = s .says .ensures in
-    c .all-five .ensures ∙ cc (said, c .before .before .before .is .ensures, c .before .before .is2 .ensures, c .before .is3 .ensures)
+    rw (said, c .before .before .before .is .ensures, c .before .before .is2 .ensures, c .before .is3 .ensures) at (c .all-five .ensures)
 
 pub is-proposal-spec : {M : Type 1} → statement M
 is-proposal-spec =

@@ -2,7 +2,6 @@ pub mod Advances
 pub mod CallLaws
 pub mod CallSteps
 pub mod ChangeLaws
-pub mod ChangeSteps
 pub mod EffectLaws
 pub mod Effects
 pub mod EveryHelpLaws

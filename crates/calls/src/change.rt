@@ -22,19 +22,24 @@ pub fn carry_out_unchecked(space: Space, entry: Tuple, change: Change) -> Space
     ensures { λ r. ⌜ r ≡ carriedOut space entry change ⌝ }
 {
     let count = space.count;
-    if let Change::Append = change {
-        if count < TUPLES {
-            return append(space, entry);
-        }
-    }
-    if let Change::Remove(at) = change {
-        if count <= TUPLES {
-            if at < count {
-                return remove(space, at);
+    match change {
+        Change::Keep => space,
+        Change::Append => {
+            if TUPLES <= count {
+                return space;
             }
+            append(space, entry)
+        }
+        Change::Remove(at) => {
+            if TUPLES < count {
+                return space;
+            }
+            if count <= at {
+                return space;
+            }
+            remove(space, at)
         }
     }
-    space
 }
 
 // Puts an entry behind the newest tuple.

@@ -1,6 +1,7 @@
 // A call on a space: the refusals in their order, then what the call does.
 ghost use mathlib.Core.Path.{_≡_};
 ghost use Rattle.calls.specs.Turns.{firstRefusal, judged, applied};
+use crate::change::Change;
 use crate::change::carry_out_unchecked;
 use crate::effect::Effect;
 use crate::effect::perform;
@@ -32,10 +33,12 @@ pub fn apply(space: Space, call: Call) -> Applied
     let reply = effect.reply;
     let change = effect.change;
     let entry = call.entry;
-    Applied {
-        reply,
-        space: carry_out_unchecked(space, entry, change),
-    }
+    let next = if let Change::Keep = change {
+        space
+    } else {
+        carry_out_unchecked(space, entry, change)
+    };
+    Applied { reply, space: next }
 }
 
 // What a call on a space is answered, and what becomes of the tuples. Of the space the configuration and the count are tested, and not its

@@ -3,8 +3,10 @@ use borrow.Author.Needs.{needs}
 use mathlib.Core.Path.{_≡_, sym, ap, _∙_}
 use mathlib.Core.Bool.{Bool, cond}
 use mathlib.Core.Logic.{⊎-elim}
+use Rattle.calls.specs.declared.change.Change.{Change}
 use Rattle.calls.specs.declared.effect.Effect.{Effect}
 use Rattle.calls.specs.declared.turn.Applied.{Applied}
+use Rattle.calls.specs.Changes.{carriedOut}
 use Rattle.calls.specs.Effects.{refuses}
 use Rattle.calls.specs.Turns.{judged, carriedBy, applied}
 use Rattle.space.specs.declared.space.Space.{Space}
@@ -32,13 +34,24 @@ judge-unchecked-requires c κs = search needs
 refused-requires : tie.Need-refused-requires
 refused-requires c κs = search needs
 
+enum-told : tie.Need-enum-told
+enum-told c = search needs
+
 carry-out-unchecked-requires : tie.Need-carry-out-unchecked-requires
 carry-out-unchecked-requires c κs = search needs
 
 returns : tie.Need-returns
-unfolding applied
+unfolding applied carriedOut
 returns c =
-    let j = c .before .before .before in
+    let j = c .before .before .before .before in
+    let a = j .before .before .args in
+    sym (ap {B = Applied} (λ (change : Change). record { reply = j .if1 .effect .reply; space = carriedOut (a .space) (a .call .entry) change }) (c .enum-told .given .1))
+    ∙ ap (carriedBy (a .space) (a .call)) (tested j)
+
+returns-2 : tie.Need-returns-2
+unfolding applied
+returns-2 c =
+    let j = c .before .before .before .before in
     let a = j .before .before .args in
     ap {B = Applied} (λ (space : Space). record { reply = j .if1 .effect .reply; space = space }) (c .carry-out-unchecked .ensures)
     ∙ ap (carriedBy (a .space) (a .call)) (tested j)
@@ -50,5 +63,7 @@ apply-spec =
     is-well-formed-requires
     judge-unchecked-requires
     refused-requires
+    enum-told
     carry-out-unchecked-requires
-    returns)
+    returns
+    returns-2)

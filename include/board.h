@@ -219,7 +219,7 @@ uint64_t board_script(const uint8_t *bytes, size_t length, uint8_t *buffer, size
 board_opened board_fresh(board_config config);
 
 /* A call on a board: the reply, and the board afterwards. Refused, and the board as before: 1 for a board that is not well formed, then 3 to 5 for what is
- * wrong with the call, then 6, then 7, 12 or 13 by the policy, then 8. Stack: 96 KB. */
+ * wrong with the call, then 6, then 7, 12 or 13 by the policy, then 8. Stack: 68 KB. */
 board_applied board_apply(board_space space, board_call call);
 
 /* Starts a seat in a round with its proposal, the mark if `bottom` is not 0 (which is refused): its first call. Refused: 1 for a set-up that is not

@@ -152,16 +152,9 @@ impl Board {
 #[cfg(test)]
 mod tests {
     use super::*;
+    use crate::config::making::{config, strong};
     use crate::fields::{Field, Kind};
     use Refusal::*;
-
-    fn config(n: u64, t: u64, policy: u64) -> Config {
-        Config { n, t, policy, k: 0 }
-    }
-
-    fn strong(n: u64, t: u64, k: u64) -> Config {
-        Config { n, t, policy: 3, k }
-    }
 
     fn bare() -> Board {
         Board::fresh(config(4, 1, 0)).unwrap()

@@ -75,17 +75,25 @@ impl Config {
 }
 
 #[cfg(test)]
-mod tests {
-    use super::*;
-    use Refusal::Unsound;
+pub(crate) mod making {
+    use super::Config;
 
-    fn config(n: u64, t: u64, policy: u64) -> Config {
+    /// A set-up without choices.
+    pub(crate) fn config(n: u64, t: u64, policy: u64) -> Config {
         Config { n, t, policy, k: 0 }
     }
 
-    fn strong(n: u64, t: u64, k: u64) -> Config {
+    /// A set-up of policy 3.
+    pub(crate) fn strong(n: u64, t: u64, k: u64) -> Config {
         Config { n, t, policy: 3, k }
     }
+}
+
+#[cfg(test)]
+mod tests {
+    use super::making::{config, strong};
+    use super::*;
+    use Refusal::Unsound;
 
     #[test]
     fn set_ups() {

@@ -99,17 +99,10 @@ mod tests {
     use std::collections::HashSet;
 
     use super::*;
+    use crate::config::making::{config, strong};
     use crate::records::Reader;
     use crate::script::run;
     use Refusal::*;
-
-    fn config(n: u64, t: u64, policy: u64) -> Config {
-        Config { n, t, policy, k: 0 }
-    }
-
-    fn strong(n: u64, t: u64, k: u64) -> Config {
-        Config { n, t, policy: STRONG, k }
-    }
 
     /// A board with these tuples, as if handed in.
     fn with(config: Config, tuples: &[Tuple]) -> Board {

@@ -128,6 +128,7 @@ fn set(seats: impl Iterator<Item = u64>) -> u64 {
 mod tests {
     use super::*;
     use crate::board::{Answer, Board};
+    use crate::config::making;
     use crate::fields::PROPOSE;
 
     const DENIED: Result<Answer, Refusal> = Err(Refusal::Denied);
@@ -135,12 +136,12 @@ mod tests {
     const UNBORNE: Result<Answer, Refusal> = Err(Refusal::Unborne);
 
     fn board(n: u64, t: u64, policy: u64) -> Board {
-        Board::fresh(Config { n, t, policy, k: 0 }).unwrap()
+        Board::fresh(making::config(n, t, policy)).unwrap()
     }
 
     /// An empty board under policy 3.
     fn strong(n: u64, t: u64, k: u64) -> Board {
-        Board::fresh(Config { n, t, policy: STRONG, k }).unwrap()
+        Board::fresh(making::strong(n, t, k)).unwrap()
     }
 
     /// A board under policy 2 with these tuples, as if handed in.

@@ -271,16 +271,13 @@ fn bit(seat: u32) -> u64 {
 #[cfg(test)]
 mod tests {
     use super::*;
+    use crate::config::making::strong;
     use crate::fields::{Field, Kind};
     use std::collections::HashSet;
     use Refusal::{Denied, Second, Unborne, Unfit, Unsound, Value};
 
     fn config(n: u64, t: u64) -> Config {
         Config { n, t, policy: 2, k: 0 }
-    }
-
-    fn strong(n: u64, t: u64, k: u64) -> Config {
-        Config { n, t, policy: 3, k }
     }
 
     fn proposal(round: u64, seat: u64, offset: u64) -> Answer {

@@ -348,7 +348,6 @@ module _ (config : Config) (safe : sound config ≡ true) (shares : hasList conf
 own-true : (process : ℕ) → eqb process process ≡ true
 own-true process = eq-eqb process process refl
 
--- a count of an entry is at most the largest
 -- ---- policy 4: what is filled is held
 
 pub next-listed : NextListed

@@ -13,7 +13,7 @@ use borrow.Table.Steps.{cases}
 use Rattle.calls.specs.declared.effect.Effect.{Effect}
 use Rattle.calls.specs.declared.turn.Applied.{Applied}
 use Rattle.calls.specs.Effects.{appends, rdpEffect, inpEffect, casEffect, effect}
-use Rattle.calls.specs.ListLaws.{ReadRule, SameSum, ShiftSums}
+use Rattle.calls.specs.ListLaws.{ReadWhen, ReadRule, SameSum, ShiftSums}
 use Rattle.calls.specs.Lists.{listOf, listAfter, Tells, Read, ReadTo, hundredths, shiftSum}
 use Rattle.calls.specs.Lists.Tells.{finds, holds, inserts}
 use Rattle.calls.specs.Turns.{Turn, applied, turnsFrom, turns, lastOf, after, last}
@@ -40,6 +40,28 @@ use Rattle.tuple.specs.Fields.{out, rdp, inp, blankTuple}
 use Rattle.tuple.specs.Matching.{oldestOf}
 use Rattle.tuple.proofs.MatchRules.{oldest-rule}
 use Rattle.tuple.proofs.OffsetLaws.{one-to-one}
+
+-- ---- when a position is read
+
+tells-one : {turn : Turn} {tuple : Tuple} → Tells turn tuple
+    → ((turn .reply .outcome ≡ Found) × (turn .reply .tuple ≡ tuple))
+    ⊎ (((turn .reply .outcome ≡ Held) × (turn .reply .tuple ≡ tuple)) ⊎ ((turn .reply .outcome ≡ Inserted) × (turn .call .entry ≡ tuple)))
+tells-one (finds o e) = inl (o, e)
+tells-one (holds o e) = inr (inl (o, e))
+tells-one (inserts o e) = inr (inr (o, e))
+
+pub read-when : ReadWhen
+read-when config calls process position tuple = (
+  λ read. (read .shape, read .at, (read .turn, read .occurs, read .by, tells-one (read .told))),
+  λ h. record {
+    turn = h .2 .0;
+    occurs = h .2 .1;
+    by = h .2 .2;
+    shape = h .0;
+    at = h .1;
+    told = ⊎-elim (λ f. finds (f .0) (f .1)) (⊎-elim (λ f. holds (f .0) (f .1)) (λ f. inserts (f .0) (f .1))) (h .2 .3);
+  },
+)
 
 -- ---- what is found or held stands in the space
 

@@ -1,4 +1,4 @@
--- What a call on a space is refused with is exactly what document 01's order says.
+-- What a call on a space is refused with is exactly what document 01's order says, and what it is then answered.
 use mathlib.Core.Path.{_≡_, refl, sym, ap, _∙_, subst}
 use Prim.Native.Nat.{ℕ, _≤_}
 use native.Mathlib.Omega.{arith}
@@ -11,10 +11,10 @@ use borrow.Table.Steps.{cases}
 use Rattle.calls.specs.declared.change.Change.{Change}
 use Rattle.calls.specs.declared.turn.Applied.{Applied}
 use Rattle.calls.specs.Effects.{effect}
-use Rattle.calls.specs.Laws.{Denied, Obeyed, RefusedBy, RefusedRule}
+use Rattle.calls.specs.Laws.{Denied, Obeyed, RefusedBy, RefusedRule, RefusedReply}
 use Rattle.calls.specs.Laws.RefusedBy.{unformed, faulty, stranger, denied, full}
 use Rattle.calls.specs.Turns.{behindFault, firstRefusal, judgedBy, judged, carriedBy, applied}
-use Rattle.calls.proofs.CallLaws.{denied-rule, permitted-applied}
+use Rattle.calls.proofs.CallLaws.{permitted-applied}
 use Rattle.calls.proofs.CallSteps.{Puts, Moves, moves, formed-bounded}
 use Rattle.policy.specs.declared.verdicts.Verdict.the-variants.{Permit}
 use Rattle.policy.specs.Policies.{verdictOn, verdict}
@@ -30,6 +30,7 @@ use Rattle.tuple.specs.declared.field.Call.{Call}
 use Rattle.tuple.specs.declared.refusal.Refusal.{Refusal}
 use Rattle.tuple.specs.declared.reply.Outcome.{Outcome}
 use Rattle.tuple.specs.declared.reply.Outcome.the-variants.{Refused}
+use Rattle.tuple.specs.declared.reply.Reply.{Reply}
 use Rattle.tuple.specs.Bounds.{capacity}
 use Rattle.tuple.specs.Faults.{callFault}
 use Rattle.tuple.specs.Refusals.{refusal}
@@ -86,22 +87,23 @@ module _ (space : Space) (call : Call) (why : Refusal) where
       (λ e. fault-refused e (callFault call) refl (rw (e, formed-bounded space e) at h))
       (λ e. same (refusal 1) (unformed e) (rw e at h))
 
-by-refused : (space : Space) (call : Call) (why : Refusal) → RefusedBy space call why → applied space call .reply .outcome ≡ Refused why
-unfolding applied judged firstRefusal known effect
-by-refused space call why (unformed e) = rw e
-by-refused space call why (faulty what formed e) = rw (formed, formed-bounded space formed, e)
-by-refused space call why (stranger formed sound strange) =
+pub refused-reply : RefusedReply
+unfolding applied judged firstRefusal verdict known effect
+refused-reply space call why (unformed e) = rw e
+refused-reply space call why (faulty what formed e) = rw (formed, formed-bounded space formed, e)
+refused-reply space call why (stranger formed sound strange) =
     rw (formed, formed-bounded space formed, sound)
     (cases (known (space .config) (call .process))
     (λ k. absurd (strange (between 1 (call .process) (space .config .n) k)))
     (λ k. rw k))
-by-refused space call why (denied what d) = denied-rule space call what (d .cause) .1 d
-by-refused space call why (full o many (inl e)) =
-    ap (λ (a : Applied). a .reply .outcome) (permitted-applied space call (o .formed) (o .sound) (o .known) (o .permitted))
+refused-reply space call why (denied what d) =
+    rw (d .formed, formed-bounded space (d .formed), d .sound, le-leb 1 (call .process) (d .known .0), le-leb (call .process) (space .config .n) (d .known .1), d .forbidden)
+refused-reply space call why (full o many (inl e)) =
+    ap (λ (a : Applied). a .reply) (permitted-applied space call (o .formed) (o .sound) (o .known) (o .permitted))
     ∙ rw (e, le-ltb (length (held space)) capacity many) refl
-by-refused space call why (full o many (inr e)) =
-    ap (λ (a : Applied). a .reply .outcome) (permitted-applied space call (o .formed) (o .sound) (o .known) (o .permitted))
+refused-reply space call why (full o many (inr e)) =
+    ap (λ (a : Applied). a .reply) (permitted-applied space call (o .formed) (o .sound) (o .known) (o .permitted))
     ∙ rw (e .0, e .1, le-ltb (length (held space)) capacity many) refl
 
 pub refused-rule : RefusedRule
-refused-rule space call why = (refused-by space call why, by-refused space call why)
+refused-rule space call why = (refused-by space call why, λ by. ap (λ (r : Reply). r .outcome) (refused-reply space call why by))

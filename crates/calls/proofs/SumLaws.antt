@@ -1,14 +1,17 @@
--- The number of tuples held after a list of calls, and that nothing leaves where the policy permits no inp.
+-- The number of tuples held after a list of calls, what it counts, and that nothing leaves where the policy permits no inp.
 use mathlib.Core.Path.{_≡_, refl, sym, ap, _∙_}
-use Prim.Native.Nat.{_+_}
+use Prim.Native.Nat.{ℕ, _+_, _≤_}
 use native.Mathlib.Omega.{arith}
-use mathlib.Core.Bool.{false}
+use mathlib.Core.Bool.{Bool, true, false, cond}
+use mathlib.Core.Logic.{inl, inr, ⊎-elim}
 use mathlib.Core.List.{List, [], _∷_, _++_, append-assoc, append-nil}
 use lib.ListN.{length, length-append, length-take, length-drop}
+use lib.Dec.{eqb}
+use borrow.Author.Tests.{eqb-true, eq-eqb}
 use borrow.Table.Steps.{cases}
 use Rattle.calls.specs.Changes.{carriedOut}
 use Rattle.calls.specs.Counts.{addition, removal, additions, removals}
-use Rattle.calls.specs.RunLaws.{SumRule, NoInp, NothingLeaves}
+use Rattle.calls.specs.RunLaws.{SumRule, CountRule, CountRules, NoInp, NothingLeaves}
 use Rattle.calls.specs.Turns.{applied, turnsFrom, turns, lastOf, after}
 use Rattle.calls.proofs.CallSteps.{Puts, Moves}
 use Rattle.calls.proofs.RunSteps.{Goes, Run, next, held-run, fresh-run, after-run}
@@ -19,6 +22,52 @@ use Rattle.space.specs.Spaces.{held, bounded, wellFormed, freshOf}
 use Rattle.tuple.specs.declared.field.Tuple.{Tuple}
 use Rattle.tuple.specs.declared.field.Call.{Call}
 use Rattle.tuple.specs.declared.reply.Outcome.{Outcome}
+use Rattle.tuple.specs.declared.reply.Outcome.the-variants.{Done, None, Found, Inserted, Held, Refused}
+use Rattle.tuple.specs.Fields.{out, inp, cas}
+
+-- ---- what is counted
+
+one-if : (test : Bool) → _≡_ {A = ℕ} (cond test 1 0) 1 → test ≡ true
+one-if true h = refl
+one-if false h = absurd (omega arith)
+
+most-one : (test : Bool) → cond test 1 0 ≤ 1
+most-one true = omega arith
+most-one false = omega arith
+
+-- no outcome is another
+apart : {a : Type 0} → _≡_ {A = ℕ} 0 1 → a
+apart e = absurd (omega arith)
+
+count-rule : (code : ℕ) (outcome : Outcome) → CountRule code outcome
+count-rule code Done =
+    record {
+      put = (λ h. inl (eqb-true code out (one-if (eqb code out) h), refl), ⊎-elim (λ p. rw (eq-eqb code out (p .0)) refl) (λ p. apart cc));
+      taken = (λ h. absurd (omega arith), λ p. apart cc);
+      most = (most-one (eqb code out), omega arith);
+    }
+count-rule code None =
+    record { put = (λ h. absurd (omega arith), ⊎-elim (λ p. apart cc) (λ p. apart cc)); taken = (λ h. absurd (omega arith), λ p. apart cc); most = (omega arith, omega arith) }
+count-rule code Found =
+    record {
+      put = (λ h. absurd (omega arith), ⊎-elim (λ p. apart cc) (λ p. apart cc));
+      taken = (λ h. (eqb-true code inp (one-if (eqb code inp) h), refl), λ p. rw (eq-eqb code inp (p .0)) refl);
+      most = (omega arith, most-one (eqb code inp));
+    }
+count-rule code Inserted =
+    record {
+      put = (λ h. inr (eqb-true code cas (one-if (eqb code cas) h), refl), ⊎-elim (λ p. apart cc) (λ p. rw (eq-eqb code cas (p .0)) refl));
+      taken = (λ h. absurd (omega arith), λ p. apart cc);
+      most = (most-one (eqb code cas), omega arith);
+    }
+count-rule code Held =
+    record { put = (λ h. absurd (omega arith), ⊎-elim (λ p. apart cc) (λ p. apart cc)); taken = (λ h. absurd (omega arith), λ p. apart cc); most = (omega arith, omega arith) }
+count-rule code (Refused why) =
+    record { put = (λ h. absurd (omega arith), ⊎-elim (λ p. apart cc) (λ p. apart cc)); taken = (λ h. absurd (omega arith), λ p. apart cc); most = (omega arith, omega arith) }
+
+pub count-rules : CountRules
+unfolding additions removals
+count-rules = record { one = count-rule; none = (refl, refl); more = λ turn rest. (refl, refl) }
 
 -- ---- the sum
 

@@ -65,6 +65,10 @@ pub data RefusedBy (space : Space) (call : Call) : Refusal → Type 0 where
 abbrev pub RefusedRule : Type 0
 RefusedRule = (space : Space) (call : Call) (why : Refusal) → (applied space call .reply .outcome ≡ Refused why) ↔ RefusedBy space call why
 
+-- a refused call is answered with its refusal and a tuple that is blank (`BlankRule`)
+abbrev pub RefusedReply : Type 0
+RefusedReply = (space : Space) (call : Call) (why : Refusal) → RefusedBy space call why → applied space call .reply ≡ record { outcome = Refused why; tuple = blankTuple }
+
 -- a refused call leaves the space as it was
 abbrev pub Unchanged : Type 0
 Unchanged = (space : Space) (call : Call) (why : Refusal) → applied space call .reply .outcome ≡ Refused why → applied space call .space ≡ space

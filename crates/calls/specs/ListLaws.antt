@@ -2,13 +2,13 @@
 -- document 02's words.
 use mathlib.Core.Path.{_≡_}
 use mathlib.Core.Bool.{true, false}
-use mathlib.Core.Logic.{_⊎_}
+use mathlib.Core.Logic.{_↔_, _⊎_}
 use mathlib.Core.List.{List, [], _∷_, _++_, List·Memᴰ}
 use Prim.Native.Nat.{ℕ, _+_, _-_, _≤_, _<_}
 use lib.ListN.{length, take, getD}
 use lib.IntN.{ℤ, pos, negsuc, _+ℤ_}
 use Rattle.calls.specs.Lists.{listAfter, listFor, listCas, announceOut, OwnCas, ListedBy, Read, ReadTo, shiftOf, shiftSum}
-use Rattle.calls.specs.Turns.{applied, turns, last}
+use Rattle.calls.specs.Turns.{Turn, applied, turns, last}
 use Rattle.policy.specs.declared.verdicts.Verdict.the-variants.{Permit, Refuse}
 use Rattle.policy.specs.Listing.{preferred}
 use Rattle.policy.specs.Policies.{verdictOn}
@@ -20,7 +20,7 @@ use Rattle.space.specs.Shapes.{processOf}
 use Rattle.space.specs.Spaces.{held}
 use Rattle.tuple.specs.declared.field.Tuple.{Tuple}
 use Rattle.tuple.specs.declared.field.Call.{Call}
-use Rattle.tuple.specs.declared.reply.Outcome.the-variants.{Done, Inserted, Held, Refused}
+use Rattle.tuple.specs.declared.reply.Outcome.the-variants.{Done, Found, Inserted, Held, Refused}
 use Rattle.tuple.specs.declared.offset.Offset.the-variants.{Hundredths}
 use Rattle.tuple.specs.Fields.{blankTuple}
 use Rattle.tuple.specs.Offsets.{codeOf}
@@ -220,6 +220,20 @@ Helped =
     → ListedWithin config before (before ++ (announceOut process serial code ∷ calls)) (length (listAfter config before) + config .n) process serial
 
 -- ---- reading it
+
+-- a process has read a list tuple exactly when a call under its number was answered found or held with it, or inserted with it as its entry
+abbrev pub Told : Config → List Call → ℕ → Tuple → Type 0
+Told config calls process tuple =
+    (turn : Turn)
+    × List·Memᴰ turn (turns config calls)
+    × (turn .call .process ≡ process)
+    × (((turn .reply .outcome ≡ Found) × (turn .reply .tuple ≡ tuple))
+    ⊎ (((turn .reply .outcome ≡ Held) × (turn .reply .tuple ≡ tuple)) ⊎ ((turn .reply .outcome ≡ Inserted) × (turn .call .entry ≡ tuple))))
+
+abbrev pub ReadWhen : Type 0
+ReadWhen =
+    (config : Config) (calls : List Call) (process position : ℕ) (tuple : Tuple)
+    → Read config calls process position tuple ↔ ((isListTuple tuple ≡ true) × (positionOf tuple ≡ position) × Told config calls process tuple)
 
 -- what a process has read of a position stands there at the end, so that any two readings of a position are one tuple
 pub record ReadStands (config : Config) (calls : List Call) (position : ℕ) (tuple : Tuple) : Type 0 where

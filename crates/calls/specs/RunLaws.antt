@@ -1,11 +1,11 @@
 -- The laws of lists of calls from a fresh space, as claims over the definitions.
 use mathlib.Core.Path.{_≡_}
 use mathlib.Core.Bool.{true}
-use mathlib.Core.List.{List, _∷_, _++_, List·Memᴰ}
-use mathlib.Core.Logic.{_⊎_}
+use mathlib.Core.List.{List, [], _∷_, _++_, List·Memᴰ}
+use mathlib.Core.Logic.{_↔_, _⊎_}
 use Prim.Native.Nat.{ℕ, _+_, _≤_, _<_}
 use lib.ListN.{length, getD}
-use Rattle.calls.specs.Counts.{additions, removals}
+use Rattle.calls.specs.Counts.{addition, removal, additions, removals}
 use Rattle.calls.specs.Turns.{Turn, applied, turns, uncheckedFrom, last}
 use Rattle.policy.specs.declared.verdicts.Verdict.the-variants.{Permit}
 use Rattle.policy.specs.Policies.{verdictOn}
@@ -16,7 +16,8 @@ use Rattle.space.specs.Shapes.{roundOf, isProposal, processOf}
 use Rattle.space.specs.Spaces.{held, freshOf}
 use Rattle.tuple.specs.declared.field.Tuple.{Tuple}
 use Rattle.tuple.specs.declared.field.Call.{Call}
-use Rattle.tuple.specs.declared.reply.Outcome.the-variants.{Done, Inserted, Refused}
+use Rattle.tuple.specs.declared.reply.Outcome.{Outcome}
+use Rattle.tuple.specs.declared.reply.Outcome.the-variants.{Done, Found, Inserted, Refused}
 use Rattle.tuple.specs.Fields.{blankTuple}
 use Rattle.tuple.specs.Refusals.{refusal}
 
@@ -30,6 +31,20 @@ SumRule =
     (config : Config) (calls : List Call)
     → sound config ≡ true
     → length (held (last config calls)) + removals (turns config calls) ≡ additions (turns config calls)
+
+-- what it counts: one for an out answered done and for a cas answered inserted, one less for an inp answered found, and nothing for another turn
+pub record CountRule (code : ℕ) (outcome : Outcome) : Type 0 where
+  pub put : (addition code outcome ≡ 1) ↔ (((code ≡ 1) × (outcome ≡ Done)) ⊎ ((code ≡ 4) × (outcome ≡ Inserted)))
+  pub taken : (removal code outcome ≡ 1) ↔ ((code ≡ 3) × (outcome ≡ Found))
+  pub most : (addition code outcome ≤ 1) × (removal code outcome ≤ 1)
+
+-- turn by turn
+pub record CountRules : Type 0 where
+  pub one : (code : ℕ) (outcome : Outcome) → CountRule code outcome
+  pub none : (additions [] ≡ 0) × (removals [] ≡ 0)
+  pub more : (turn : Turn) (rest : List Turn)
+      → (additions (turn ∷ rest) ≡ addition (turn .call .code) (turn .reply .outcome) + additions rest)
+      × (removals (turn ∷ rest) ≡ removal (turn .call .code) (turn .reply .outcome) + removals rest)
 
 -- under policies 1 to 5 refusal 8 never comes
 abbrev pub NeverFull : Type 0

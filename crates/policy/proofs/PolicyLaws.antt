@@ -13,7 +13,7 @@ use Rattle.policy.specs.declared.verdicts.Verdict.{Verdict}
 use Rattle.policy.specs.declared.verdicts.Verdict.the-variants.{Permit, Refuse}
 use Rattle.policy.specs.Justified.{isOwnProposal, isFree, outVerdict, isDecisionCall, bearsOffset, bears, casVerdict, justified}
 use Rattle.policy.specs.Default.{bearsBottom}
-use Rattle.policy.specs.Laws.{Denial, VerdictRule, SecondProposal, SecondRule, Unborne, UnborneRule, OtherwiseRule, UnknownRule, BoundedRule, BareRule, WeakRule, OutRule, RdpRule, InpRule, DecisionCall, BearsOffset, BearsBottom, CasOffsetRule, CasBottomRule, CasChoiceRule}
+use Rattle.policy.specs.Laws.{Denial, VerdictRule, SecondProposal, SecondRule, Unborne, UnborneRule, OtherwiseRule, UnknownRule, BoundedRule, BareRule, WeakRule, OutRule, RdpRule, InpRule, DecisionCall, BearsOffset, BearsBottom, CasOffsetRule, JustifiedOnly, CasBottomRule, CasChoiceRule}
 use Rattle.policy.specs.Laws.Denial.{denied, second, unborne}
 use Rattle.policy.specs.Listing.{mayList, mayAnnounce, mayTakeOff, shared}
 use Rattle.policy.specs.Policies.{verdictOn, verdict}
@@ -120,6 +120,15 @@ inp-rule config tuples call some most e =
     cases (eqb (config .policy) 1) (λ one. rw (none, one, e))
     (λ other. cases (hasProposals config) (λ rests. rw (none, other, rests, e))
     (λ more. cases (hasList config) (λ lists. rw (none, other, more, lists, e, early)) (λ last. rw (none, other, more, last))))
+
+pub justified-only : JustifiedOnly
+unfolding justified
+justified-only config tuples call rests h =
+    let ruled = rw (under-justified config tuples call rests) at h in
+    cases (eqb (call .code) out) (λ a. inl (eqb-true _ _ a))
+    (λ a. cases (eqb (call .code) rdp) (λ b. inr (inl (eqb-true _ _ b)))
+    (λ b. cases (eqb (call .code) cas) (λ c. inr (inr (eqb-true _ _ c)))
+    (λ c. let refused = rw (a, b, c) at ruled in let z : _≡_ {A = ℕ} 0 1 = cc in absurd (omega arith))))
 
 free-rule : (config : Config) (tuples : List Tuple) (entry : Tuple) → (isFree config tuples entry ≡ true) ↔ (Placed tuples (roundOf entry) (processOf entry) → ⊥)
 unfolding isFree

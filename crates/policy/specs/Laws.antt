@@ -118,6 +118,14 @@ CasOffsetRule =
     → (decidedCode (call .entry) ≡ 0 → ⊥)
     → (verdictOn config tuples call ≡ Permit) ↔ (DecisionCall config call × BearsOffset config tuples (call .entry))
 
+-- and nothing else is permitted under policies 2 and 3
+abbrev pub JustifiedOnly : Type 0
+JustifiedOnly =
+    (config : Config) (tuples : List Tuple) (call : Call)
+    → hasProposals config ≡ true
+    → verdictOn config tuples call ≡ Permit
+    → (call .code ≡ 1) ⊎ ((call .code ≡ 2) ⊎ (call .code ≡ 4))
+
 -- ---- policy 2 alone
 
 -- bottom: at least n - t members, each of which has proposed, and of every offset w at most t of them have proposed w: q is their set

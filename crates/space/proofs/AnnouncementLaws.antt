@@ -12,7 +12,7 @@ use borrow.Table.Steps.{cases}
 use Rattle.space.specs.declared.announcement.Announced.{Announced}
 use Rattle.space.specs.declared.announcement.Announced.the-variants.{Waits, Silent}
 use Rattle.space.specs.Announcements.{isAnnouncement, announcerOf, announcedSerial, announcedCode, announces, announcedOf, Announcing, Oldest}
-use Rattle.space.specs.Laws.{AnnouncementRule, AnnouncedRule, AnnouncedRules}
+use Rattle.space.specs.Laws.{AnnouncementRule, AnnouncementMade, AnnouncedRule, AnnouncedRules}
 use Rattle.space.proofs.ShapeLaws.{four}
 use Rattle.space.proofs.SpaceRules.{stands}
 use Rattle.tuple.specs.declared.field.Field.{Field}
@@ -22,6 +22,7 @@ use Rattle.tuple.specs.Offsets.{bottom}
 use Rattle.tuple.specs.Shapes.{field, is, says}
 use Rattle.tuple.proofs.FieldLaws.{field-is, field-says}
 use Rattle.tuple.proofs.Lists.{drop-take-step, drop-take-end}
+use Rattle.tuple.proofs.Made.{four-made}
 
 -- ---- one step of the search
 
@@ -80,6 +81,17 @@ announcement-rule tuple process serial code = (
         value _ _ (t .third),
         shift,
       ),
+)
+
+pub announcement-made : AnnouncementMade
+unfolding isAnnouncement
+announcement-made tuple six rest = (
+  λ h. let parts = announcement-parts tuple h in (
+    four-made tuple six rest _ _ _ _ (parts .counted) (field-says word announcing _ (parts .named)) (field-is count defined _ (parts .process) _ refl)
+        (field-is count defined _ (parts .serial) _ refl) (field-is offset defined _ (parts .shift) _ refl),
+    parts .some,
+  ),
+  λ m. ap isAnnouncement (m .0) ∙ rw (ne-eqb (announcedCode tuple) bottom (m .1)),
 )
 
 -- ---- the oldest of a process

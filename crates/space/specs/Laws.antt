@@ -11,7 +11,7 @@ use Rattle.space.specs.declared.config.Config.{Config}
 use Rattle.space.specs.declared.proposal.Sought.the-variants.{One, Some, Any}
 use Rattle.space.specs.declared.space.Space.{Space}
 use Rattle.space.specs.declared.announcement.Announced.the-variants.{Waits, Silent}
-use Rattle.space.specs.Announcements.{isAnnouncement, announcerOf, announcedSerial, announcedCode, announcedOf, Announcing, Oldest}
+use Rattle.space.specs.Announcements.{isAnnouncement, announcement, announcerOf, announcedSerial, announcedCode, announcedOf, Announcing, Oldest}
 use Rattle.space.specs.Configs.{sound, hasProposals, hasList}
 use Rattle.space.specs.Lists.{isListTuple, listTuple, positionOf, serialOf, shiftCode, isFilled, isListed, Filled, Listed}
 use Rattle.space.specs.Members.{Member, within, every, counted}
@@ -174,6 +174,15 @@ AnnouncementRule =
     (tuple : Tuple) (process serial code : ℕ)
     → ((isAnnouncement tuple ≡ true) × (announcerOf tuple ≡ process) × (announcedSerial tuple ≡ serial) × (announcedCode tuple ≡ code))
     ↔ Announcement tuple process serial code
+
+-- one of six places whose unused parts are zero has nothing else: it is what is made of these
+abbrev pub AnnouncementMade : Type 0
+AnnouncementMade =
+    (tuple : Tuple)
+    → length (tuple .fields) ≡ 6
+    → restBlank tuple true ≡ true
+    → (isAnnouncement tuple ≡ true)
+    ↔ ((tuple ≡ announcement (announcerOf tuple) (announcedSerial tuple) (announcedCode tuple)) × (announcedCode tuple ≡ 0 → ⊥))
 
 -- what a process has announced is its oldest announcement, and nothing exactly when none stands
 pub record AnnouncedRule (tuples : List Tuple) (process : ℕ) : Type 0 where

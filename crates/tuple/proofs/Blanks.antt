@@ -11,6 +11,10 @@ use Rattle.tuple.specs.declared.field.Tuple.{Tuple}
 use Rattle.tuple.specs.Bounds.{places}
 use Rattle.tuple.specs.Fields.{blankField, blankTuple}
 use Rattle.tuple.specs.Faults.{isBlank, placeBlank, restFrom, restBlank}
+use Rattle.tuple.specs.Laws.{BlankRule}
+
+pub blank-rule : BlankRule
+blank-rule = record { field = refl; tuple = refl; call = refl }
 
 blank-field : (field : Field) → isBlank field ≡ true → blankField ≡ field
 unfolding isBlank

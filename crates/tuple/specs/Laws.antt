@@ -1,7 +1,7 @@
--- The laws of refusals, offsets and matching, as claims over the definitions.
+-- The laws of refusals, blanks, offsets and matching, as claims over the definitions.
 use mathlib.Core.Path.{_≡_}
 use mathlib.Core.Bool.{true, false}
-use mathlib.Core.List.{List}
+use mathlib.Core.List.{List, [], _∷_}
 use mathlib.Core.Logic.{_↔_}
 use Prim.Native.Nat.{ℕ, _+_, _*_, _≤_, _<_}
 use lib.ListN.{length, getD}
@@ -13,7 +13,7 @@ use Rattle.tuple.specs.declared.offset.Offset.the-variants.{Bottom, Hund
 use Rattle.tuple.specs.declared.field.Field.{Field}
 use Rattle.tuple.specs.declared.field.Tuple.{Tuple}
 use Rattle.tuple.specs.declared.matching.Found.the-variants.{At, Nowhere}
-use Rattle.tuple.specs.Fields.{blankField, blankTuple}
+use Rattle.tuple.specs.Fields.{blankField, blankTuple, blankCall}
 use Rattle.tuple.specs.Matching.{matches, oldestOf}
 use Rattle.tuple.specs.declared.refusal.Refusal.{Refusal}
 use Rattle.tuple.specs.Refusals.{numberOf, refusal}
@@ -26,6 +26,15 @@ Numbered = (r : Refusal) → refusal (numberOf r) ≡ r
 -- and the numbers are 1 to 15
 abbrev pub NumberedBack : Type 0
 NumberedBack = (number : ℕ) → 1 ≤ number → number ≤ 15 → numberOf (refusal number) ≡ number
+
+-- what is blank: every part is zero, in each of six places
+abbrev pub zeros : Field
+zeros = record { kind = 0; state = 0; value = 0 }
+
+pub record BlankRule : Type 0 where
+  pub field : blankField ≡ zeros
+  pub tuple : blankTuple ≡ record { count = 0; fields = zeros ∷ zeros ∷ zeros ∷ zeros ∷ zeros ∷ zeros ∷ [] }
+  pub call : blankCall ≡ record { process = 0; code = 0; template = blankTuple; entry = blankTuple }
 
 -- the coding is one to one between the offsets in range, bottom among them, and the numbers from 0 to the largest code
 pub record OneToOne : Type 0 where

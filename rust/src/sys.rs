@@ -1,7 +1,7 @@
 //! The proved library (crates/board_c): its functions and structs, and the only place with `unsafe`.
 //!
-//! Each function takes any value of its parameters' types; its contract in crates/board_c/src/lib.rt says what it answers on each. A
-//! slice crosses as its pointer and its length. Numbers stand for the cases of an enum.
+//! Each function has an answer for every number and struct that is passed; its contract in crates/board_c/src/lib.rt says which. A
+//! slice crosses as its pointer and its length: the pointer is valid for as many bytes, and two slices of one call do not overlap. Numbers stand for the cases of an enum.
 
 #![allow(unsafe_code)]
 

@@ -1,2 +1,3 @@
+pub mod ExportLaws
 pub mod FlatLaws
 pub mod NumberLaws

@@ -1,3 +1,4 @@
+pub mod Exports
 pub mod Flat
 pub mod Laws
 pub mod Numbers

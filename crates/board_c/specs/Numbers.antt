@@ -35,7 +35,7 @@ use Rattle.tuple.specs.declared.refusal.Refusal.the-variants.{Unsound, Cut, Bey
 use Rattle.tuple.specs.declared.reply.Outcome.{Outcome}
 use Rattle.tuple.specs.declared.reply.Outcome.the-variants.{Done, None, Found, Inserted, Held, Refused}
 use Rattle.tuple.specs.declared.reply.Reply.{Reply}
-use Rattle.tuple.specs.Fields.{blankCall}
+use Rattle.tuple.specs.Laws.{noCall}
 
 -- ---- replies: the outcome's number, the refusal's, 0 where there is none, and the tuple
 
@@ -164,7 +164,7 @@ pub record Numbers : Type 0 where
   pub value-none : (value : ℕ) → 1 ≤ value → (isPhase 0 value ≡ false) × (isPhase 2 value ≡ false)
   -- a state with none of these is refused 1, and stays as it was
   pub state-none : (process : FlatProcess) (reply : FlatReply) → isPhase (process .phase) (process .value) ≡ false
-      → resumed process reply ≡ record { next = 2; refusal = 1; bottom = 0; hundredths = pos 0; process = process; call = blankCall }
+      → resumed process reply ≡ record { next = 2; refusal = 1; bottom = 0; hundredths = pos 0; process = process; call = noCall }
   pub step-out : (process : Process) (call : Call) (z : ℤ) → Out flatStep (steps process call z)
   -- a proposal that is handed in: hundredths if the flag for bottom is 0, and bottom otherwise
   pub offset-in : (z : ℤ) → flaggedOffset 0 z ≡ Hundredths z

@@ -23,6 +23,7 @@ use Rattle.tuple.specs.declared.reply.Outcome.{Outcome}
 use Rattle.tuple.specs.declared.reply.Outcome.the-variants.{Done, None, Found, Inserted, Held, Refused}
 use Rattle.tuple.specs.Faults.{callFault}
 use Rattle.tuple.specs.Fields.{blankTuple}
+use Rattle.tuple.specs.Laws.{nothing}
 use Rattle.tuple.specs.Matching.{oldestOf}
 use Rattle.tuple.specs.Refusals.{refusal}
 
@@ -65,9 +66,9 @@ pub data RefusedBy (space : Space) (call : Call) : Refusal → Type 0 where
 abbrev pub RefusedRule : Type 0
 RefusedRule = (space : Space) (call : Call) (why : Refusal) → (applied space call .reply .outcome ≡ Refused why) ↔ RefusedBy space call why
 
--- a refused call is answered with its refusal and a tuple that is blank (`BlankRule`)
+-- a refused call is answered with its refusal and no tuple
 abbrev pub RefusedReply : Type 0
-RefusedReply = (space : Space) (call : Call) (why : Refusal) → RefusedBy space call why → applied space call .reply ≡ record { outcome = Refused why; tuple = blankTuple }
+RefusedReply = (space : Space) (call : Call) (why : Refusal) → RefusedBy space call why → applied space call .reply ≡ record { outcome = Refused why; tuple = nothing }
 
 -- a refused call leaves the space as it was
 abbrev pub Unchanged : Type 0

@@ -1,11 +1,10 @@
 -- What writing a space answers by its tests, and what it leaves in the buffer. From the definitions.
-use mathlib.Core.Path.{_≡_, ap, _∙_}
+use mathlib.Core.Path.{_≡_}
 use Prim.Native.Nat.{ℕ, _≤_, _<_}
 use native.Mathlib.Omega.{arith}
 use mathlib.Core.Bool.{true, false}
 use mathlib.Core.List.{List, _++_}
-use lib.ListN.{length, drop, length-append, length-drop}
-use lib.Seq.{take-append-seam, drop-append-seam}
+use lib.ListN.{length, drop}
 use lib.Dec.{leb, eqb}
 use borrow.Author.Tests.{le-leb, lt-leb, leb-true, leb-false, eqb-true, eqb-false, eq-eqb, ne-eqb}
 use borrow.Table.Steps.{cases}
@@ -13,6 +12,7 @@ use Rattle.dump.specs.Dumps.{dumpBytes, isReached, writtenOf, leftOf}
 use Rattle.dump.specs.Laws.{UnsoundRule, UnscriptedRule, NoRoomRule, Stored, BufferRules}
 use Rattle.record.specs.declared.writer.Recorded.{Recorded}
 use Rattle.record.specs.declared.writer.Recorded.the-variants.{Length, Unwritten}
+use Rattle.record.proofs.WrittenLaws.{replaced}
 use Rattle.space.specs.declared.space.Space.{Space}
 use Rattle.space.specs.Spaces.{wellFormed}
 use Rattle.tuple.specs.declared.refusal.Refusal.{Refusal}
@@ -139,13 +139,9 @@ module _ (space : Space) (buffer : List ℕ) where
   stored : (n : ℕ) → writtenOf space (length buffer) ≡ Length n → Stored space buffer n
   stored n e =
       let fit = fits space (length buffer) n e in
-      let bytes = dumpBytes space in
-      let left : leftOf space buffer ≡ bytes ++ drop (length bytes) buffer = left-written n e ∙ ap (λ (k : ℕ). bytes ++ drop k buffer) (fit .same) in
-      record {
-        script = rw (left, fit .same) (take-append-seam bytes (drop (length bytes) buffer));
-        behind = rw (left, fit .same) (drop-append-seam bytes (drop (length bytes) buffer));
-        whole = rw left (simp (length-append, length-drop) (omega (arith, fit .same, fit .inside)));
-      }
+      let left = left-written n e in
+      let parts = replaced (dumpBytes space) buffer n (fit .same) (fit .inside) in
+      record { script = rw left (parts .0); behind = rw left (parts .1); whole = rw left (parts .2) }
 
 pub buffer-rules : BufferRules
 buffer-rules space buffer = record { stored = stored space buffer; kept = left-refused space buffer }

@@ -3,7 +3,7 @@ use mathlib.Core.Path.{refl}
 use mathlib.Core.List.{[]}
 use lib.Count.{ones}
 use Rattle.dump.specs.Dumps as dumps
-use Rattle.dump.specs.Examples.{workedScript, worked, WorkedEnds, WorkedBytes, ListedBytes, Rows}
+use Rattle.dump.specs.Examples.{workedScript, worked, WorkedEnds, WorkedBytes, unreadScript, UnreadEnds, ListedBytes, Rows}
 use Rattle.dump.specs.Appending as appending
 use Rattle.dump.proofs.ByteLaws.{small, small-bytes}
 use Rattle.calls.specs.Changes.{carriedOut}
@@ -25,10 +25,11 @@ use Rattle.space.specs.Members.{beyond, within, every}
 use Rattle.space.specs.Proposals.{isChoice, offered, decidable, proposes, proposed, everyProposed}
 use Rattle.space.specs.Shapes.{isProposal}
 use Rattle.space.specs.Spaces.{spaceOf, placeSound, placesFrom, bounded, wellFormed, freshOf}
-use Rattle.tuple.specs.declared.fault.Fault.the-variants.{Absent}
+use Rattle.tuple.specs.declared.fault.Fault.the-variants.{Absent, Present}
 use Rattle.tuple.specs.Faults.{knownHead, fieldFault, fieldsFault, tupleFault, partFault, usesTemplate, usesEntry, usedFault, isBlank, placeBlank, restFrom, restBlank, callFault, isEntry}
 use Rattle.tuple.specs.Fields.{largestOf}
 use Rattle.tuple.specs.Matching.{fieldMatches, fieldsMatch, matches, oldestFrom, oldestOf}
+use Rattle.tuple.specs.Refusals.{refusal}
 use Rattle.varint.specs.Reading.{joined, numberFrom, numberAt}
 use Rattle.varint.specs.Writing.{groupsOf, bytesOf}
 
@@ -42,7 +43,8 @@ unfolding dumps.dumpBytes dumps.dumpCalls appending.callOf appending.ownProcess
     fieldBytes fieldsBytes tupleBytes partBytes callBytes setUpBytes recordsBytes known usesTemplate usesEntry groupsOf bytesOf
 listed-bytes = refl
 
-pub worked-ends : WorkedEnds
+-- the two scripts, run
+ends : WorkedEnds × UnreadEnds
 unfolding ran ranOn configOf recordsAt recordsFrom readNumber numberAt numberFrom joined callAt bodyAt partsAt partAt tupleAt fieldsAt fieldAt valueAt headOf
     carriedOut effect firstRefusal judged applied turnsFrom lastOf
     isOwnProposal isFree outVerdict isDecisionCall bearsOffset bears casVerdict justified verdictOn verdict isDecisionTemplate isDecision
@@ -50,14 +52,28 @@ unfolding ran ranOn configOf recordsAt recordsFrom readNumber numberAt numberFro
     placeSound placesFrom bounded wellFormed freshOf
     knownHead fieldFault fieldsFault tupleFault partFault usesTemplate usesEntry usedFault isBlank placeBlank restFrom restBlank callFault isEntry
     largestOf fieldMatches fieldsMatch matches oldestFrom oldestOf ones small
-worked-ends =
-    record {
-      bytes = small-bytes workedScript refl;
-      config = worked .config;
-      made = turnsFrom (spaceOf (worked .config) []) (recordsAt workedScript 3 .calls);
-      fault = Absent;
-      runs = refl;
-    }
+ends = (
+  record {
+    bytes = small-bytes workedScript refl;
+    config = worked .config;
+    made = turnsFrom (spaceOf (worked .config) []) (recordsAt workedScript 3 .calls);
+    fault = Absent;
+    runs = refl;
+  },
+  record {
+    bytes = small-bytes unreadScript refl;
+    config = worked .config;
+    made = turnsFrom (spaceOf (worked .config) []) (recordsAt unreadScript 3 .calls);
+    fault = Present (refusal 4);
+    runs = refl;
+  },
+)
+
+pub worked-ends : WorkedEnds
+worked-ends = ends .0
+
+pub unread-ends : UnreadEnds
+unread-ends = ends .1
 
 pub answers : Rows
 unfolding dumps.dumpBytes dumps.dumpCalls dumps.writtenOf dumps.isReached dumps.allAppended appending.callOf appending.ownProcess appending.templateOf

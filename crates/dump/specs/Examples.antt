@@ -73,6 +73,13 @@ WorkedEnds = EndsIn workedScript worked
 abbrev pub WorkedBytes : Type 0
 WorkedBytes = dumpBytes worked ≡ workedBytes
 
+-- a script whose last record can't be read, for its code is 5, ends in the space that its records before that leave: a proposal, and a call refused 6
+abbrev pub unreadScript : List ℕ
+unreadScript = 4 ∷ 1 ∷ 2 ∷ 1 ∷ 1 ∷ 4 ∷ 4 ∷ 1 ∷ 8 ∷ 0 ∷ 8 ∷ 1 ∷ 12 ∷ 80 ∷ 5 ∷ 2 ∷ 1 ∷ 5 ∷ 1 ∷ 5 ∷ []
+
+abbrev pub UnreadEnds : Type 0
+UnreadEnds = EndsIn unreadScript (under 2 (proposal 0 1 80 ∷ []))
+
 -- a shared list of two shifts, -40 by process 1 and 40 by process 2, each under its serial 7
 abbrev pub listed : Space
 listed = under 4 (listTuple 1 1 7 80 ∷ listTuple 2 2 7 81 ∷ [])

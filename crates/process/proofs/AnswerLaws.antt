@@ -10,7 +10,6 @@ use Rattle.process.specs.declared.process.Next.the-variants.{Refuses}
 use Rattle.process.specs.declared.process.Phase.{Phase}
 use Rattle.process.specs.declared.process.Phase.the-variants.{Proposing, Reading, Deciding, Decided}
 use Rattle.process.specs.declared.process.Process.{Process}
-use Rattle.process.specs.declared.process.Step.{Step}
 use Rattle.process.specs.Fits.{fits}
 use Rattle.process.specs.Laws.{ReadsFirst, ReadsOn, ReadRules, DecidesRules, Unmoved, Repeats}
 use Rattle.process.specs.Procedure.{reads, decides, noted, readOn, valueOf, advanced, isDecided, resumed}
@@ -26,7 +25,7 @@ pub reads-first : ReadsFirst
 unfolding resumed
 reads-first process reply formed proposing fit =
     let goes : resumed process reply ≡ reads process (process .found) 1 = rw (formed, fit, or-true, proposing) refl in
-    rw goes (record { calls = refl; call = refl; phase = refl })
+    rw goes (record { calls = refl; call = refl; state = refl })
 
 -- ---- after a reading
 
@@ -36,9 +35,8 @@ module _ (process : Process) (reply : Reply) (asked : ℕ) (formed : wellFormed 
   reads-on found e =
       let goes : resumed process reply ≡ readOn process found asked = rw (formed, fit, or-true, reading, e) refl in
       record {
-        casts = λ settles. rw (goes, settles) (record { calls = refl; call = refl; phase = refl });
-        reads = λ goes-on. rw (goes, goes-on) (record { calls = refl; call = refl; phase = refl });
-        notes = ap (λ (s : Step). s .process .found) goes ∙ cases (settled (process .config) found) (λ h. rw h refl) (λ h. rw h refl);
+        casts = λ settles. rw (goes, settles) (record { calls = refl; call = refl; state = refl });
+        reads = λ goes-on. rw (goes, goes-on) (record { calls = refl; call = refl; state = refl });
       }
 
 pub read-rules : ReadRules
@@ -58,8 +56,8 @@ decides-rules process reply formed deciding fit =
     let value : (outcome : Outcome) → reply .outcome ≡ outcome → resumed process reply ≡ decides process (valueOf own (reply .tuple) outcome) =
     λ outcome e. goes ∙ ap (λ (o : Outcome). decides process (valueOf own (reply .tuple) o)) e in
     record {
-      inserted = λ e. record { decides = ap (λ (s : Step). s .next) (value Inserted e); phase = ap (λ (s : Step). s .process .phase) (value Inserted e) };
-      held = λ e. record { decides = ap (λ (s : Step). s .next) (value Held e); phase = ap (λ (s : Step). s .process .phase) (value Held e) };
+      inserted = λ e. rw (value Inserted e) (record { decides = refl; call = refl; state = refl });
+      held = λ e. rw (value Held e) (record { decides = refl; call = refl; state = refl });
     }
 
 -- ---- refusals
@@ -80,8 +78,8 @@ unmoved process reply why =
     cases (wellFormed process)
     (λ formed. cases (isDecided (process .phase) || fits process reply)
     (λ fit. rw (formed, fit) (λ refuses. absurd (advances process reply (process .phase) why refuses)))
-    (λ unfit. rw (formed, unfit) (λ refuses. refl)))
-    (λ unformed. rw unformed (λ refuses. refl))
+    (λ unfit. rw (formed, unfit) (λ refuses. (refl, refl))))
+    (λ unformed. rw unformed (λ refuses. (refl, refl)))
 
 pub repeats : Repeats
 unfolding resumed

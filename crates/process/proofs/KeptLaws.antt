@@ -12,6 +12,7 @@ use Rattle.process.specs.declared.process.Phase.{Phase}
 use Rattle.process.specs.declared.process.Phase.the-variants.{Proposing, Reading, Deciding, Decided}
 use Rattle.process.specs.declared.process.Process.{Process}
 use Rattle.process.specs.Fits.{fitsRdp, fitsCas, fitsIn, fits}
+use Rattle.process.specs.Laws.{FormedRule}
 use Rattle.process.specs.Procedure.{proposable, begun, started, turned, noted, readOn, valueOf, decides, advanced, resumed}
 use Rattle.process.specs.States.{noneFound, startable, codeSound, foundSound, phaseSound, wellFormed}
 use Rattle.process.specs.Tallies.{backed, settled, nextAfter}
@@ -145,3 +146,6 @@ started-formed config process round offset =
     (λ e. rw (start, member, e) (λ calls. let z : _≡_ {A = ℕ} 0 1 = cc in absurd (omega arith))))
     (λ e. rw (start, e) (λ calls. let z : _≡_ {A = ℕ} 0 1 = cc in absurd (omega arith))))
     (λ e. rw e (λ calls. let z : _≡_ {A = ℕ} 0 1 = cc in absurd (omega arith)))
+
+pub formed-rule : FormedRule
+formed-rule = record { starts = started-formed; resumes = resumed-formed }

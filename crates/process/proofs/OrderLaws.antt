@@ -15,7 +15,7 @@ use Rattle.process.specs.declared.process.Phase.the-variants.{Proposing,
 use Rattle.process.specs.declared.process.Process.{Process}
 use Rattle.process.specs.Fits.{fits}
 use Rattle.process.specs.Laws.{MayStart, IsProcess, MayPropose, StartOrder, StartOrders, HandOrder, HandOrders}
-use Rattle.process.specs.Procedure.{proposable, begun, started, isDecided, resumed}
+use Rattle.process.specs.Procedure.{proposable, started, isDecided, resumed}
 use Rattle.process.specs.States.{startable, wellFormed}
 use Rattle.process.proofs.AnswerLaws.{advances}
 use Rattle.process.proofs.StateLaws.{startable-rule, known-rule}
@@ -87,6 +87,7 @@ module _ (config : Config) (process round : ℕ) (offset : Offset) where
         unsound = (λ h. never, λ n. is);
         stranger = (λ h. let z : _≡_ {A = ℕ} 0 1 = cc in absurd (omega arith), λ n. absurd (never (n .0)));
         beyond = (λ h. let z : _≡_ {A = ℕ} 0 1 = cc in absurd (omega arith), λ n. absurd (never (n .0)));
+        blank = λ why refuses. rw s (refl, refl);
         begins = λ start. absurd (never start);
       }
 
@@ -100,6 +101,7 @@ module _ (config : Config) (process round : ℕ) (offset : Offset) where
         unsound = (λ h. let z : _≡_ {A = ℕ} 0 1 = cc in absurd (omega arith), λ n. absurd (n start));
         stranger = (λ h. (start, never), λ n. is);
         beyond = (λ h. let z : _≡_ {A = ℕ} 0 1 = cc in absurd (omega arith), λ n. absurd (never (n .1)));
+        blank = λ why refuses. rw (s, k) (refl, refl);
         begins = λ m member. absurd (never member);
       }
 
@@ -114,6 +116,7 @@ module _ (config : Config) (process round : ℕ) (offset : Offset) where
         unsound = (λ h. let z : _≡_ {A = ℕ} 0 1 = cc in absurd (omega arith), λ n. absurd (n start));
         stranger = (λ h. let z : _≡_ {A = ℕ} 0 1 = cc in absurd (omega arith), λ n. absurd (n .1 member));
         beyond = (λ h. (start, member, never), λ n. is);
+        blank = λ why refuses. rw (s, k, p) (refl, refl);
         begins = λ m q may. absurd (never may);
       }
 
@@ -128,6 +131,7 @@ module _ (config : Config) (process round : ℕ) (offset : Offset) where
         unsound = (λ h. let z : _≡_ {A = ℕ} 0 1 = cc in absurd (omega arith), λ n. absurd (n start));
         stranger = (λ h. let z : _≡_ {A = ℕ} 0 1 = cc in absurd (omega arith), λ n. absurd (n .1 member));
         beyond = (λ h. let z : _≡_ {A = ℕ} 0 1 = cc in absurd (omega arith), λ n. absurd (n .2 may));
+        blank = λ why refuses. let z : _≡_ {A = ℕ} 0 1 = cc in absurd (omega arith);
         begins = λ a b c. rw (s, k, p) refl;
       }
 

@@ -9,7 +9,7 @@ use native.Mathlib.Omega.{arith}
 use lib.Count.{ones, ones-step}
 use lib.Dec.{eqb, leb}
 use lib.ListN.{getD}
-use borrow.Author.Tests.{eqb-true, eqb-false, ne-eqb, leb-true, leb-false, le-leb, not-true}
+use borrow.Author.Tests.{eqb-true, eqb-false, eq-eqb, ne-eqb, leb-true, leb-false, le-leb, not-true}
 use borrow.Table.Steps.{cases}
 use Rattle.process.specs.Laws.{SettledRule, ReadingEnds, BackedRules, SetRules}
 use Rattle.process.specs.Tallies.{backs, one, backing, backingSet, isBacked, backedOf, backed, settled}
@@ -25,11 +25,15 @@ backs-nothing : (value : ℕ) → backs value 0 ≡ false
 unfolding backs
 backs-nothing value = refl
 
--- an offset is backed only by those that proposed it
-pub backs-same : (value code : ℕ) → (value ≡ bottom → ⊥) → backs value code ≡ true → code ≡ value
+-- a value is backed by those that are found, and, unless it is bottom, proposed it
+pub backs-rule : (value code : ℕ) → (backs value code ≡ true) ↔ ((code ≡ 0 → ⊥) × ((value ≡ bottom → ⊥) → code ≡ value))
 unfolding backs
-backs-same value code some h =
-    let parts = and-eq-true-iff (not (eqb code 0)) _ .0 h in eqb-true code value (rw (ne-eqb value bottom some) at (parts .1))
+backs-rule value code = (
+  λ h. let parts = and-eq-true-iff (not (eqb code 0)) _ .0 h in
+      (eqb-false code 0 (not-true _ (parts .0)), λ some. eqb-true code value (rw (ne-eqb value bottom some) at (parts .1))),
+  λ h. rw (ne-eqb code 0 (h .0))
+      (cases (eqb value bottom) (λ e. rw e) (λ e. rw (e, eq-eqb code value (h .1 (eqb-false value bottom e))))),
+)
 
 -- who backs a value is found
 one-found : (value code : ℕ) → one value code ≤ one bottom code
@@ -68,7 +72,7 @@ module _ (t : ℕ) (found : List ℕ) where
       cases (isBacked t found code)
       (λ e. rw e (λ none. absurd (is-backed-rule code .0 e .0 none)))
       (λ e. rw e (λ none. cases (backs w code)
-      (λ b. absurd (false≢true (sym e ∙ ap (isBacked t found) (backs-same w code (is-backed-rule w .0 enough .0) b) ∙ enough)))
+      (λ b. absurd (false≢true (sym e ∙ ap (isBacked t found) (backs-rule w code .0 b .1 (is-backed-rule w .0 enough .0)) ∙ enough)))
       (λ b. rw (b, zero-add) (backed-none w enough rest none))))
 
 pub backed-rule : BackedRules
@@ -140,10 +144,12 @@ module _ (value : ℕ) where
 pub set-rule : SetRules
 set-rule value found =
     record {
-      members = λ k. (
-        λ member. (member .some, set-bits value found (k - 1) .0 (member .bit)),
-        λ h. record { some = h .0; bit = set-bits value found (k - 1) .1 (h .1) },
-      );
+      members = λ k.
+          let bits = set-bits value found (k - 1) in
+          let rule = backs-rule value (getD found (k - 1) 0) in (
+            λ member. let is = rule .0 (bits .0 (member .bit)) in (member .some, is .0, is .1),
+            λ h. record { some = h .0; bit = bits .1 (rule .1 (h .1, h .2)) },
+          );
       size = set-size value found;
     }
 

@@ -20,11 +20,8 @@ use Rattle.tuple.specs.declared.offset.Offset.{Offset}
 use Rattle.tuple.specs.declared.offset.Offset.the-variants.{Bottom}
 use Rattle.tuple.specs.declared.reply.Outcome.the-variants.{Done, None, Found, Inserted, Held}
 use Rattle.tuple.specs.declared.reply.Reply.{Reply}
+use Rattle.tuple.specs.Laws.{nothing}
 use Rattle.tuple.specs.Offsets.{codeOf}
-
--- a tuple with no field
-abbrev pub nothing : Tuple
-nothing = record { count = 0; fields = part 0 0 0 ∷ part 0 0 0 ∷ part 0 0 0 ∷ part 0 0 0 ∷ part 0 0 0 ∷ part 0 0 0 ∷ [] }
 
 -- (word 1, count r, count q, open offset)
 abbrev pub askedOf : ℕ → ℕ → Tuple

@@ -2,24 +2,24 @@
 use mathlib.Core.Path.{_≡_}
 use mathlib.Core.Logic.{_↔_, _⊎_}
 use mathlib.Core.Bool.{true, false}
-use mathlib.Core.List.{List}
+use mathlib.Core.List.{List, [], _∷_}
 use Prim.Native.Nat.{ℕ, _+_, _-_, _*_, _≤_, _<_}
 use lib.Count.{ones}
 use lib.IntN.{ℤ, pos, natAbs}
-use lib.ListN.{length, set}
+use lib.ListN.{length, getD, set}
 use Rattle.process.specs.declared.process.Next.the-variants.{Calls, Decides, Refuses}
 use Rattle.process.specs.declared.process.Phase.the-variants.{Proposing, Reading, Deciding, Decided}
 use Rattle.process.specs.declared.process.Process.{Process}
 use Rattle.process.specs.declared.process.Step.{Step}
 use Rattle.process.specs.Asks.{rdpCall, casCall}
 use Rattle.process.specs.Fits.{fits}
-use Rattle.process.specs.Procedure.{begun, started, resumed}
+use Rattle.process.specs.Procedure.{started, resumed}
 use Rattle.process.specs.Reachable.{Reachable}
 use Rattle.process.specs.States.{startable, foundSound, wellFormed}
-use Rattle.process.specs.Tallies.{foundOf, backs, backing, backingSet, backed, settled, total, nextAfter}
+use Rattle.process.specs.Tallies.{backing, backingSet, backed, settled, total, nextAfter}
 use Rattle.space.specs.declared.config.Config.{Config}
 use Rattle.space.specs.Configs.{sound}
-use Rattle.space.specs.Laws.{Sound}
+use Rattle.space.specs.Laws.{Sound, proposalOf}
 use Rattle.space.specs.Members.{Member}
 use Rattle.policy.specs.Shapes.{decidedCode}
 use Rattle.space.specs.Shapes.{proposedCode}
@@ -28,16 +28,33 @@ use Rattle.tuple.specs.declared.offset.Offset.the-variants.{Hundredths}
 use Rattle.tuple.specs.declared.refusal.Refusal.{Refusal}
 use Rattle.tuple.specs.declared.reply.Outcome.the-variants.{None, Found, Inserted, Held}
 use Rattle.tuple.specs.declared.reply.Reply.{Reply}
-use Rattle.tuple.specs.Fields.{blankCall}
+use Rattle.tuple.specs.Laws.{nothing, noCall}
 use Rattle.tuple.specs.Offsets.{codeOf, offsetOf}
 use Rattle.tuple.specs.Refusals.{refusal}
 use Rattle.tuple.specs.Shapes.{field}
+
+-- ---- what is blank, in numbers
+
+-- of 15 processes none is found
+abbrev pub fifteenZeros : List ℕ
+fifteenZeros = 0 ∷ 0 ∷ 0 ∷ 0 ∷ 0 ∷ 0 ∷ 0 ∷ 0 ∷ 0 ∷ 0 ∷ 0 ∷ 0 ∷ 0 ∷ 0 ∷ 0 ∷ []
+
+-- the state where none was started
+abbrev pub noProcess : Process
+noProcess = record { config = record { n = 0; t = 0; policy = 0; k = 0 }; process = 0; round = 0; phase = Proposing; found = fifteenZeros }
 
 -- ---- states
 
 -- a state is well formed exactly if the procedure can reach it by fitting replies; its type says that it has a place for each process
 abbrev pub ReachableRule : Type 0
 ReachableRule = (process : Process) → length (process .found) ≡ 15 → (wellFormed process ≡ true) ↔ Reachable process
+
+-- well formed is also what starting gives, and what a fitting reply makes of a well-formed state
+pub record FormedRule : Type 0 where
+  pub starts : (config : Config) (process round : ℕ) (offset : Offset) → started config process round offset .next ≡ Calls
+      → (wellFormed (started config process round offset .process) ≡ true) × (length (started config process round offset .process .found) ≡ 15)
+  pub resumes : (process : Process) (reply : Reply) → length (process .found) ≡ 15 → wellFormed process ≡ true → fits process reply ≡ true
+      → (wellFormed (resumed process reply .process) ≡ true) × (length (resumed process reply .process .found) ≡ 15)
 
 -- under policy 3 one that has decided has a choice, and never bottom
 abbrev pub ChoiceDecided : Type 0
@@ -77,13 +94,22 @@ pub record MayPropose (config : Config) (round : ℕ) (offset : Offset) : Type 0
   pub number : (z : ℤ) × (offset ≡ Hundredths z) × (natAbs z ≤ 100_000)
   pub choice : config .policy ≡ 3 → (z : ℕ) × (z < config .k) × (offset ≡ Hundredths (pos z))
 
--- starting is refused with 1, 6, 3, each exactly when it is the first that holds; else it begins with its proposal
+-- starting is refused with 1, 6, 3, each exactly when it is the first that holds, beside a blank state and call; else it waits for the reply to the
+-- out (1) of its proposal
 pub record StartOrder (config : Config) (process round : ℕ) (offset : Offset) : Type 0 where
   pub unsound : (started config process round offset .next ≡ Refuses (refusal 1)) ↔ (MayStart config → ⊥)
   pub stranger : (started config process round offset .next ≡ Refuses (refusal 6)) ↔ (MayStart config × (IsProcess config process → ⊥))
   pub beyond : (started config process round offset .next ≡ Refuses (refusal 3))
       ↔ (MayStart config × IsProcess config process × (MayPropose config round offset → ⊥))
-  pub begins : MayStart config → IsProcess config process → MayPropose config round offset → started config process round offset ≡ begun config process round offset
+  pub blank : (why : Refusal) → started config process round offset .next ≡ Refuses why
+      → (started config process round offset .process ≡ noProcess) × (started config process round offset .call ≡ noCall)
+  pub begins : MayStart config → IsProcess config process → MayPropose config round offset
+      → started config process round offset
+      ≡ record {
+        next = Calls;
+        process = record { config = config; process = process; round = round; phase = Proposing; found = fifteenZeros };
+        call = record { process = process; code = 1; template = nothing; entry = proposalOf round process (codeOf offset) };
+      }
 
 abbrev pub StartOrders : Type 0
 StartOrders = (config : Config) (process round : ℕ) (offset : Offset) → StartOrder config process round offset
@@ -97,20 +123,22 @@ pub record HandOrder (process : Process) (reply : Reply) : Type 0 where
 abbrev pub HandOrders : Type 0
 HandOrders = (process : Process) (reply : Reply) → HandOrder process reply
 
--- a step: it asks for the proposal of process q; it calls cas with the value and all found processes that back it; it has decided the offset of a code
-pub record Asks (process : Process) (step : Step) (q : ℕ) : Type 0 where
+-- a step: it asks for the proposal of process q; it calls cas with the value and all found processes that back it; it has decided the offset of a code.
+-- The configuration, the process and the round stay, and what is then found is said
+pub record Asks (process : Process) (step : Step) (q : ℕ) (found : List ℕ) : Type 0 where
   pub calls : step .next ≡ Calls
   pub call : step .call ≡ rdpCall (process .process) (process .round) q
-  pub phase : step .process .phase ≡ Reading q
+  pub state : step .process ≡ record { config = process .config; process = process .process; round = process .round; phase = Reading q; found = found }
 
 pub record Casts (process : Process) (step : Step) (value : ℕ) (found : List ℕ) : Type 0 where
   pub calls : step .next ≡ Calls
   pub call : step .call ≡ casCall (process .process) (process .round) value (backingSet value found)
-  pub phase : step .process .phase ≡ Deciding
+  pub state : step .process ≡ record { config = process .config; process = process .process; round = process .round; phase = Deciding; found = found }
 
-pub record HasSettled (step : Step) (code : ℕ) : Type 0 where
+pub record HasSettled (process : Process) (step : Step) (code : ℕ) : Type 0 where
   pub decides : step .next ≡ Decides (offsetOf code)
-  pub phase : step .process .phase ≡ Decided code
+  pub call : step .call ≡ noCall
+  pub state : step .process ≡ record { config = process .config; process = process .process; round = process .round; phase = Decided code; found = fifteenZeros }
 
 -- when its proposal is done, it reads the process 1 first
 abbrev pub ReadsFirst : Type 0
@@ -119,14 +147,13 @@ ReadsFirst =
     → wellFormed process ≡ true
     → process .phase ≡ Proposing
     → fits process reply ≡ true
-    → Asks process (resumed process reply) 1
+    → Asks process (resumed process reply) 1 (process .found)
 
 -- after a reading none leaves what is found, and found notes the offset in the fourth field of the tuple for the process asked. Then, if what is found
 -- ends the reading, it calls cas with the value and all found processes that back it, and else reads on behind the one asked
 pub record ReadsOn (process : Process) (reply : Reply) (asked : ℕ) (found : List ℕ) : Type 0 where
   pub casts : settled (process .config) found ≡ true → Casts process (resumed process reply) (backed (process .config .t) found) found
-  pub reads : settled (process .config) found ≡ false → Asks process (resumed process reply) (nextAfter (process .config .n) found asked)
-  pub notes : resumed process reply .process .found ≡ found
+  pub reads : settled (process .config) found ≡ false → Asks process (resumed process reply) (nextAfter (process .config .n) found asked) found
 
 pub record ReadRule (process : Process) (reply : Reply) (asked : ℕ) : Type 0 where
   pub none : reply .outcome ≡ None → ReadsOn process reply asked (process .found)
@@ -142,8 +169,8 @@ ReadRules =
 
 -- after its cas, inserted gives the value of that cas, and held the offset in the third field of the held tuple
 pub record DecidesRule (process : Process) (reply : Reply) : Type 0 where
-  pub inserted : reply .outcome ≡ Inserted → HasSettled (resumed process reply) (backed (process .config .t) (process .found))
-  pub held : reply .outcome ≡ Held → HasSettled (resumed process reply) (field (reply .tuple) 2 .value)
+  pub inserted : reply .outcome ≡ Inserted → HasSettled process (resumed process reply) (backed (process .config .t) (process .found))
+  pub held : reply .outcome ≡ Held → HasSettled process (resumed process reply) (field (reply .tuple) 2 .value)
 
 abbrev pub DecidesRules : Type 0
 DecidesRules =
@@ -153,9 +180,12 @@ DecidesRules =
     → fits process reply ≡ true
     → DecidesRule process reply
 
--- refused, it leaves the state as before
+-- refused, it leaves the state as before, and gives no call
 abbrev pub Unmoved : Type 0
-Unmoved = (process : Process) (reply : Reply) (why : Refusal) → resumed process reply .next ≡ Refuses why → resumed process reply .process ≡ process
+Unmoved =
+    (process : Process) (reply : Reply) (why : Refusal)
+    → resumed process reply .next ≡ Refuses why
+    → (resumed process reply .process ≡ process) × (resumed process reply .call ≡ noCall)
 
 -- once decided, the process repeats the decision to every reply handed in, fitting or not
 abbrev pub Repeats : Type 0
@@ -164,7 +194,7 @@ Repeats =
     → length (process .found) ≡ 15
     → wellFormed process ≡ true
     → process .phase ≡ Decided code
-    → resumed process reply ≡ record { next = Decides (offsetOf code); process = process; call = blankCall }
+    → resumed process reply ≡ record { next = Decides (offsetOf code); process = process; call = noCall }
 
 -- ---- when it stops reading, and with what
 
@@ -204,9 +234,11 @@ pub record BackedRule (t : ℕ) (found : List ℕ) : Type 0 where
 abbrev pub BackedRules : Type 0
 BackedRules = (t : ℕ) (found : List ℕ) → BackedRule t found
 
--- its set is of all found processes that proposed the value, of all found if that is bottom, and its size is their number
+-- its set is of all found processes that proposed the value, of all found if that is bottom (0), and its size is their number; what process k was found to
+-- have proposed stands at the place k - 1, and 0 there if it is not found
 pub record SetRule (value : ℕ) (found : List ℕ) : Type 0 where
-  pub members : (k : ℕ) → Member k (backingSet value found) ↔ ((1 ≤ k) × (backs value (foundOf found k) ≡ true))
+  pub members : (k : ℕ)
+      → Member k (backingSet value found) ↔ ((1 ≤ k) × (getD found (k - 1) 0 ≡ 0 → ⊥) × ((value ≡ 0 → ⊥) → getD found (k - 1) 0 ≡ value))
   pub size : ones (backingSet value found) ≡ backing value found
 
 abbrev pub SetRules : Type 0
@@ -218,9 +250,9 @@ SetRules = (value : ℕ) (found : List ℕ) → SetRule value found
 pub record NextRule (n : ℕ) (found : List ℕ) (asked next : ℕ) : Type 0 where
   pub some : 1 ≤ next
   pub few : next ≤ n
-  pub free : foundOf found next ≡ 0
-  pub behind : asked < next → (k : ℕ) → asked < k → k < next → foundOf found k ≡ 0 → ⊥
-  pub again : next ≤ asked → (k : ℕ) → 1 ≤ k → k ≤ n → (asked < k) ⊎ (k < next) → foundOf found k ≡ 0 → ⊥
+  pub free : getD found (next - 1) 0 ≡ 0
+  pub behind : asked < next → (k : ℕ) → asked < k → k < next → getD found (k - 1) 0 ≡ 0 → ⊥
+  pub again : next ≤ asked → (k : ℕ) → 1 ≤ k → k ≤ n → (asked < k) ⊎ (k < next) → getD found (k - 1) 0 ≡ 0 → ⊥
 
 abbrev pub NextRules : Type 0
 NextRules =
@@ -229,5 +261,5 @@ NextRules =
     → asked ≤ n
     → 1 ≤ k
     → k ≤ n
-    → foundOf found k ≡ 0
+    → getD found (k - 1) 0 ≡ 0
     → NextRule n found asked (nextAfter n found asked)

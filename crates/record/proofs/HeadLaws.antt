@@ -1,5 +1,5 @@
--- A known field's head number says its kind and its state, a head number that says them is theirs, and a number that is none of the twelve is no head. From the definitions.
-use mathlib.Core.Path.{_≡_}
+-- The twelve heads, and no other; a known field's head number says its kind and its state, and a head number that says them is theirs. From the definitions.
+use mathlib.Core.Path.{_≡_, refl}
 use Prim.Native.Nat.{ℕ, _+_, _*_, _/_, _%_, _≤_}
 use native.Mathlib.Omega.{arith}
 use mathlib.Core.Bool.{true, _&&_}
@@ -7,13 +7,36 @@ use lib.Dec.{leb, eqb}
 use Rattle.record.specs.declared.head.Head.{Head}
 use Rattle.record.specs.declared.head.Head.the-variants.{Known, Unknown}
 use Rattle.record.specs.Heads.{headNumber, headOf}
+use Rattle.record.specs.Laws.{HeadRule}
 use Rattle.tuple.proofs.NoFault.{known-head}
 use Rattle.varint.proofs.ReadingLaws.{picked}
 use Rattle.tuple.specs.declared.field.Field.{Field}
 use Rattle.tuple.specs.Fields.{word, processSet, formal}
 use Rattle.tuple.specs.Faults.{knownHead}
-use borrow.Author.Tests.{lt-leb, leb-true, eqb-true, eqb-false}
+use borrow.Author.Tests.{le-leb, lt-leb, leb-true, eqb-true, eqb-false}
 use borrow.Table.Steps.{cases}
+
+-- ---- the twelve heads
+
+pub head-rule : HeadRule
+unfolding headOf
+head-rule =
+    record {
+      number = λ f. refl;
+      word = (refl, refl, refl);
+      count = (refl, refl, refl);
+      offset = (refl, refl, refl);
+      seats = (refl, refl, refl);
+      below = λ number h. rw (lt-leb 1 (number / 4) (omega arith));
+      between = (refl, refl, refl);
+      above = λ number h.
+          let some = le-leb 1 (number / 4) (omega arith) in
+          cases (leb (number / 4) 4)
+          (λ low. rw (some, low, lt-leb (number % 4) 2 (omega (arith, leb-true (number / 4) 4 low))))
+          (λ high. rw (some, high));
+    }
+
+-- ---- a known field's head
 
 pub head-of : (field : Field) → knownHead field ≡ true → headOf (headNumber field) ≡ Known (field .kind) (field .state)
 unfolding headOf knownHead

@@ -1,6 +1,7 @@
 pub mod Edge
 mod FieldsLaws
-mod HeadLaws
+pub mod FirstFault
+pub mod HeadLaws
 pub mod Length
 pub mod NumberLaws
 pub mod OnlyForm

@@ -1,16 +1,17 @@
--- Writing a call is refused with the call's own fault, then 10, exactly when. From what the writer answers by fault and room, and the law of faults.
+-- Writing a call is refused with the call's own fault, then 10, exactly when; and what it leaves in the buffer. From what the writer answers by fault and room, and the law of faults.
 use mathlib.Core.Path.{_≡_, refl, sym, ap, _∙_}
 use Prim.Native.Nat.{ℕ, _≤_, _<_}
 use native.Mathlib.Omega.{arith}
 use mathlib.Core.Bool.{Bool}
-use mathlib.Core.List.{List}
-use lib.ListN.{length}
+use mathlib.Core.List.{List, _++_}
+use lib.ListN.{length, drop}
 use lib.Dec.{leb}
 use borrow.Author.Tests.{leb-true, leb-false}
 use borrow.Table.Steps.{cases}
-use Rattle.record.specs.Laws.{writtenRefusal, WriteRule, WriteRules}
-use Rattle.record.specs.Writing.{Typed, callBytes, writtenOf}
-use Rattle.record.proofs.WrittenLaws.{written-fault, written-full, written-whole}
+use Rattle.record.specs.declared.writer.Recorded.the-variants.{Length}
+use Rattle.record.specs.Laws.{writtenRefusal, Stored, WriteRule, WriteRules}
+use Rattle.record.specs.Writing.{Typed, callBytes, writtenOf, leftOf}
+use Rattle.record.proofs.WrittenLaws.{replaced, written-fault, written-full, written-whole}
 use Rattle.tuple.specs.declared.fault.Fault.{Fault}
 use Rattle.tuple.specs.declared.fault.Fault.the-variants.{Absent, Present}
 use Rattle.tuple.specs.declared.field.Field.{Field}
@@ -55,6 +56,13 @@ isThere Absent = 0
 isThere (Present why) = 1
 
 module _ (call : Call) (buffer : List ℕ) (typed : Typed call) where
+  stored : (n : ℕ) → writtenOf call (length buffer) ≡ Length n → n ≡ length (callBytes call) → n ≤ length buffer → Stored call buffer n
+  unfolding leftOf
+  stored n e same fits =
+      let left : leftOf call buffer ≡ callBytes call ++ drop n buffer = rw e in
+      let parts = replaced (callBytes call) buffer n same fits in
+      record { bytes = rw left (parts .0); behind = rw left (parts .1); whole = rw left (parts .2) }
+
   rule-fault : (why : Refusal) → callFault call ≡ Present why → WriteRule call buffer
   rule-fault why e =
       let w = written-fault call buffer why e in
@@ -64,6 +72,7 @@ module _ (call : Call) (buffer : List ℕ) (typed : Typed call) where
         fault = λ what h. let small = fault-three call typed what h in (sym (written-fault call buffer what h .0), small .0, small .1);
         no-room = (λ ten. absurd (omega (arith, three .1, number, ten)), λ h. let z : Absent ≡ Present why = sym (h .0) ∙ e in absurd (omega (arith, ap isThere z)));
         kept = λ h. sym (w .1);
+        stored = λ n h. let z : _≡_ {A = ℕ} 0 1 = cc in absurd (omega arith);
       }
 
   rule-full : callFault call ≡ Absent → length buffer < length (callBytes call) → WriteRule call buffer
@@ -73,6 +82,7 @@ module _ (call : Call) (buffer : List ℕ) (typed : Typed call) where
         fault = λ what h. let z : Absent ≡ Present what = sym e ∙ h in absurd (omega (arith, ap isThere z));
         no-room = (λ ten. (e, full), λ h. sym (ap writtenRefusal (w .0)));
         kept = λ h. sym (w .1);
+        stored = λ n h. let z : _≡_ {A = ℕ} 0 1 = cc in absurd (omega arith);
       }
 
   rule-whole : callFault call ≡ Absent → length (callBytes call) ≤ length buffer → WriteRule call buffer
@@ -83,6 +93,7 @@ module _ (call : Call) (buffer : List ℕ) (typed : Typed call) where
         fault = λ what h. let z : Absent ≡ Present what = sym e ∙ h in absurd (omega (arith, ap isThere z));
         no-room = (λ ten. absurd (omega (arith, none, ten)), λ h. absurd (omega (arith, h .1)));
         kept = λ h. absurd (h (sym none));
+        stored = λ n h. let same : n ≡ length (callBytes call) = cc in stored n h same (omega arith);
       }
 
   rule-of : (fault : Fault) → callFault call ≡ fault → WriteRule call buffer

@@ -4,8 +4,8 @@ use Prim.Native.Nat.{ℕ, zero, suc, _+_, _*_, _≤_, _<_}
 use native.Mathlib.Omega.{arith}
 use mathlib.Core.Bool.{Bool, true, false, cond, false≢true}
 use mathlib.Core.List.{List, [], _∷_, _++_, append-nil}
-use lib.ListN.{length, take, drop, getD, set, length-append, length-take}
-use lib.Seq.{sets, sets-eq, length-sets, getD-take}
+use lib.ListN.{length, take, drop, getD, set, length-append, length-take, length-drop}
+use lib.Seq.{sets, sets-eq, length-sets, getD-take, take-append-seam, drop-append-seam}
 use borrow.Author.Tests.{le-leb, lt-leb}
 use Rattle.record.specs.declared.writer.Recorded.the-variants.{Length, Unwritten}
 use Rattle.record.specs.Heads.{headNumber}
@@ -50,6 +50,15 @@ wrote-then before at t u {middle} {next} {between} first second = (
 
 pub wrote-length : (before : List ℕ) (at : ℕ) (t : List ℕ) {next : ℕ} {after : List ℕ} → Wrote before at t next after → length after ≡ length before
 wrote-length before at t wrote = ap length (wrote .1) ∙ length-sets before at t
+
+-- a buffer whose first n bytes were replaced begins with the new ones, and is as before behind them
+pub replaced : (bytes buffer : List ℕ) (n : ℕ) → n ≡ length bytes → n ≤ length buffer
+    → (take n (bytes ++ drop n buffer) ≡ bytes) × (drop n (bytes ++ drop n buffer) ≡ drop n buffer) × (length (bytes ++ drop n buffer) ≡ length buffer)
+replaced bytes buffer n same fits = (
+  rw same (take-append-seam bytes (drop (length bytes) buffer)),
+  rw same (drop-append-seam bytes (drop (length bytes) buffer)),
+  simp (length-append, length-drop) (omega arith),
+)
 
 -- ---- a field's bytes, by whether it is defined
 

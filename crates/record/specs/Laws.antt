@@ -1,12 +1,14 @@
 -- The laws of records, as claims over the definitions.
 use mathlib.Core.Path.{_≡_}
 use mathlib.Core.Logic.{_↔_}
-use Prim.Native.Nat.{ℕ, _+_, _-_, _≤_, _<_}
+use Prim.Native.Nat.{ℕ, _+_, _-_, _*_, _≤_, _<_}
 use mathlib.Core.List.{List, _++_}
 use lib.ListN.{length, take, drop}
+use Rattle.record.specs.declared.head.Head.the-variants.{Known, Unknown}
 use Rattle.record.specs.declared.reader.Next.the-variants.{Refused}
 use Rattle.record.specs.declared.writer.Recorded.{Recorded}
 use Rattle.record.specs.declared.writer.Recorded.the-variants.{Length, Unwritten}
+use Rattle.record.specs.Heads.{headNumber, headOf}
 use Rattle.record.specs.Reading.{place, callAt}
 use Rattle.record.specs.Writing.{callBytes, writtenOf, leftOf, Typed}
 use Rattle.tuple.specs.declared.fault.Fault.the-variants.{Absent, Present}
@@ -19,6 +21,21 @@ use Rattle.tuple.specs.Faults.{usedFault, callFault}
 use Rattle.tuple.specs.Refusals.{numberOf, refusal}
 use Rattle.tuple.specs.Shapes.{field}
 use Rattle.varint.specs.Reading.{Bytes}
+
+-- ---- heads
+
+-- a head is 4 × kind + state, the kind word 1, count 2, offset 3 or seats 4, the state given 0, any 1 or open 2; there are these twelve, and no other
+pub record HeadRule : Type 0 where
+  pub number : (f : Field) → headNumber f ≡ 4 * f .kind + f .state
+  pub word : (headOf 4 ≡ Known 1 0) × (headOf 5 ≡ Known 1 1) × (headOf 6 ≡ Known 1 2)
+  pub count : (headOf 8 ≡ Known 2 0) × (headOf 9 ≡ Known 2 1) × (headOf 10 ≡ Known 2 2)
+  pub offset : (headOf 12 ≡ Known 3 0) × (headOf 13 ≡ Known 3 1) × (headOf 14 ≡ Known 3 2)
+  pub seats : (headOf 16 ≡ Known 4 0) × (headOf 17 ≡ Known 4 1) × (headOf 18 ≡ Known 4 2)
+  pub below : (number : ℕ) → number < 4 → headOf number ≡ Unknown
+  pub between : (headOf 7 ≡ Unknown) × (headOf 11 ≡ Unknown) × (headOf 15 ≡ Unknown)
+  pub above : (number : ℕ) → 18 < number → headOf number ≡ Unknown
+
+-- ---- what is written, and what reads
 
 -- a call without fault, written, reads back to that call and that length, wherever it stands and whatever follows
 abbrev pub ReadBack : Type 0
@@ -106,11 +123,19 @@ abbrev pub writtenRefusal : Recorded → ℕ
 writtenRefusal (Length n) = 0
 writtenRefusal (Unwritten why) = numberOf why
 
--- writing: the call's own fault, 3 to 5, whatever the buffer; then 10, exactly when the buffer is shorter than the record; a refusal leaves every byte
+-- a buffer that was written begins with the record, and no byte behind it has changed
+pub record Stored (call : Call) (buffer : List ℕ) (n : ℕ) : Type 0 where
+  pub bytes : take n (leftOf call buffer) ≡ callBytes call
+  pub behind : drop n (leftOf call buffer) ≡ drop n buffer
+  pub whole : length (leftOf call buffer) ≡ length buffer
+
+-- writing: the call's own fault, 3 to 5, whatever the buffer; then 10, exactly when the buffer is shorter than the record; a refusal leaves every byte, and
+-- a length those behind the record
 pub record WriteRule (call : Call) (buffer : List ℕ) : Type 0 where
   pub fault : (why : Refusal) → callFault call ≡ Present why → (writtenOf call (length buffer) ≡ Unwritten why) × (3 ≤ numberOf why) × (numberOf why ≤ 5)
   pub no-room : (writtenRefusal (writtenOf call (length buffer)) ≡ 10) ↔ ((callFault call ≡ Absent) × (length buffer < length (callBytes call)))
   pub kept : (writtenRefusal (writtenOf call (length buffer)) ≡ 0 → ⊥) → leftOf call buffer ≡ buffer
+  pub stored : (n : ℕ) → writtenOf call (length buffer) ≡ Length n → Stored call buffer n
 
 abbrev pub WriteRules : Type 0
 WriteRules = (call : Call) (buffer : List ℕ) → Typed call → WriteRule call buffer

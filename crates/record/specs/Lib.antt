@@ -1,4 +1,5 @@
 pub mod EdgeValues
+pub mod FirstFault
 pub mod Heads
 pub mod Laws
 pub mod Private

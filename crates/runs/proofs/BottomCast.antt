@@ -10,16 +10,16 @@ use mathlib.Core.List.{List}
 use lib.Count.{ones}
 use lib.ListN.{getD}
 use lib.Dec.{eqb}
-use borrow.Author.Tests.{eqb-true, eqb-false, eq-eqb, ne-eqb}
+use borrow.Author.Tests.{eqb-true, eqb-false}
 use borrow.Table.Steps.{cases}
-use Rattle.process.specs.Tallies.{foundOf, backs, backing, backingSet, backed, settled}
+use Rattle.process.specs.Tallies.{foundOf, backing, backingSet, backed, settled}
 use Rattle.space.proofs.CodeLaws.{offered-some, bottom-decidable, bottom-default}
 use Rattle.process.proofs.ChoiceLaws.{backed-decidable}
 use Rattle.process.proofs.StateLaws.{Codes, startable-parts}
-use Rattle.process.proofs.TallyLaws.{backs-same, backed-rule, settled-rule, set-rule}
+use Rattle.process.proofs.TallyLaws.{backed-rule, settled-rule, set-rule}
 use Rattle.runs.specs.Laws.Bears.{bears-bottom}
 use Rattle.runs.specs.Theorem.{SoundConfig}
-use Rattle.runs.proofs.Casting.{Seen, found-bottom, member-found, call, shaped, offset-permitted}
+use Rattle.runs.proofs.Casting.{Seen, call, shaped, offset-permitted}
 use Rattle.runs.proofs.Configs.{config-startable, permitted-cas}
 use Rattle.runs.proofs.Fair.{Fair}
 use Rattle.space.specs.declared.config.Config.{Config}
@@ -35,10 +35,6 @@ use Rattle.space.proofs.SpaceRules.{place}
 use Rattle.space.proofs.TallyLaws.{same-set}
 use Rattle.tuple.specs.declared.field.Tuple.{Tuple}
 use Rattle.tuple.specs.Fields.{blankTuple}
-
-found-backs : (value code : ℕ) → (code ≡ 0 → ⊥) → (value ≡ bottom → ⊥) → code ≡ value → backs value code ≡ true
-unfolding backs
-found-backs value code found some same = rw (ne-eqb code 0 found, ne-eqb value bottom some, eq-eqb code value same)
 
 no-member : (k : ℕ) → Member k 0 → ⊥
 no-member k m = let nothing : 0 / 2 ^ (k - 1) ≡ 0 = zero-div (2 ^ (k - 1)) in omega (arith, rw nothing at (m .bit))
@@ -63,13 +59,11 @@ module _ {config : Config} (s : SoundConfig config) {tuples : List Tuple} (fair 
         (λ k. (
           λ m.
               let both = members k .0 m in
-              let is = member-found bottom found k (both .0) in
-              let code : foundOf found k ≡ w = one-proposal (seen k (is .0) (is .2)) (both .1) in
-              set-rule w found .members k .1 (is .0, found-backs w (foundOf found k) (is .2) some code),
+              let is = set-rule bottom found .members k .0 (both .0) in
+              set-rule w found .members k .1 (is .0, is .1, λ other. one-proposal (seen k (is .0) (is .1)) (both .1)),
           λ m.
-              let is = member-found w found k m in
-              let code : foundOf found k ≡ w = backs-same w (foundOf found k) some (is .1) in
-              members k .1 (set-rule bottom found .members k .1 (is .0, found-bottom (foundOf found k) (is .2)), subst (Proposed config tuples round k) code (seen k (is .0) (is .2))),
+              let is = set-rule w found .members k .0 m in
+              members k .1 (set-rule bottom found .members k .1 (is .0, is .1, λ other. absurd (other refl)), subst (Proposed config tuples round k) (is .2 some) (seen k (is .0) (is .1))),
         )) in
         rw (same, set-rule w found .size) few
 
@@ -81,7 +75,7 @@ module _ {config : Config} (s : SoundConfig config) {tuples : List Tuple} (fair 
           shaped s fair q round early found codes seen bottom (bottom-decidable config two),
           bears-bottom two refl (record {
             enough = rw (set-rule bottom found .size) enough;
-            each = λ k m. let is = member-found bottom found k m in (foundOf found k, seen k (is .0) (is .2));
+            each = λ k m. let is = set-rule bottom found .members k .0 m in (foundOf found k, seen k (is .0) (is .1));
             few = λ w set members. cases (eqb w bottom)
                 (λ e. let none : set ≡ 0 = same-set set 0
                 (λ k. (λ m. absurd (offered-some config w (members k .0 m .1 .may) (eqb-true w bottom e)), λ m. absurd (no-member k m))) in

@@ -3,22 +3,21 @@
 use mathlib.Core.Path.{_≡_, refl, subst}
 use Prim.Native.Nat.{ℕ, _+_, _-_, _≤_, _<_}
 use native.Mathlib.Omega.{arith}
-use mathlib.Core.Bool.{true, false≢true}
+use mathlib.Core.Bool.{true}
 use mathlib.Core.List.{List}
 use lib.Dec.{ltb}
-use borrow.Author.Tests.{ltb-true, ltb-false, eq-eqb, ne-eqb}
+use borrow.Author.Tests.{ltb-true, ltb-false}
 use borrow.Table.Steps.{cases}
 use Rattle.process.specs.Asks.{casCall}
-use Rattle.process.specs.Tallies.{foundOf, backs, backing, backingSet}
+use Rattle.process.specs.Tallies.{foundOf, backing, backingSet}
 use Rattle.process.proofs.StateLaws.{Codes}
-use Rattle.process.proofs.TallyLaws.{backs-same, set-rule}
+use Rattle.process.proofs.TallyLaws.{set-rule}
 use Rattle.runs.specs.Laws.Bears.{bears-offset}
 use Rattle.runs.specs.Theorem.{SoundConfig}
 use Rattle.runs.proofs.Configs.{permitted-cas}
 use Rattle.runs.proofs.Fair.{Fair}
 use Rattle.space.specs.declared.config.Config.{Config}
 use Rattle.space.specs.Bounds.{rounds}
-use Rattle.space.specs.Members.{Member}
 use Rattle.space.specs.Proposals.{decidable, Proposed}
 use Rattle.policy.specs.Laws.{DecisionCall}
 use Rattle.policy.specs.declared.verdicts.Verdict.the-variants.{Permit}
@@ -31,24 +30,6 @@ use Rattle.tuple.specs.declared.field.Call.{Call}
 -- what is found in a round stands
 abbrev pub Seen : Config → List Tuple → ℕ → List ℕ → Type 0
 Seen config tuples round found = (k : ℕ) → 1 ≤ k → (foundOf found k ≡ 0 → ⊥) → Proposed config tuples round k (foundOf found k)
-
--- ---- who backs a value
-
-backs-found : (value code : ℕ) → backs value code ≡ true → (code ≡ 0 → ⊥)
-unfolding backs
-backs-found value code h none = false≢true (rw (eq-eqb code 0 none) at h)
-
--- all that are found back bottom
-pub found-bottom : (code : ℕ) → (code ≡ 0 → ⊥) → backs bottom code ≡ true
-unfolding backs
-found-bottom code found = rw (ne-eqb code 0 found)
-
--- a member of its set is found
-pub member-found : (value : ℕ) (found : List ℕ) (k : ℕ) → Member k (backingSet value found)
-    → (1 ≤ k) × (backs value (foundOf found k) ≡ true) × (foundOf found k ≡ 0 → ⊥)
-member-found value found k m = let is = set-rule value found .members k .0 m in (is .0, is .1, backs-found value (foundOf found k) (is .1))
-
--- ---- its cas
 
 module _ {config : Config} (s : SoundConfig config) {tuples : List Tuple} (fair : Fair config tuples) (q round : ℕ) (early : round < rounds)
     (found : List ℕ) (codes : Codes config (config .n) found) (seen : Seen config tuples round found) where
@@ -64,9 +45,9 @@ module _ {config : Config} (s : SoundConfig config) {tuples : List Tuple} (fair 
         same = refl;
         in-rounds = early;
         members = λ k m.
-            let is = member-found value found k m in
+            let is = set-rule value found .members k .0 m in
             cases (ltb (k - 1) (config .n)) (λ e. omega (arith, ltb-true (k - 1) (config .n) e))
-            (λ e. absurd (is .2 (codes .unused (k - 1) (ltb-false (k - 1) (config .n) e))));
+            (λ e. absurd (is .1 (codes .unused (k - 1) (ltb-false (k - 1) (config .n) e))));
         may = may;
       }
 
@@ -77,7 +58,7 @@ module _ {config : Config} (s : SoundConfig config) {tuples : List Tuple} (fair 
         bears-offset some (record {
           enough = rw (set-rule value found .size) enough;
           each = λ k m.
-              let is = member-found value found k m in
-              subst (Proposed config tuples round k) (backs-same value (foundOf found k) some (is .1)) (seen k (is .0) (is .2));
+              let is = set-rule value found .members k .0 m in
+              subst (Proposed config tuples round k) (is .2 some) (seen k (is .0) (is .1));
         }),
       )

@@ -1,4 +1,4 @@
--- At most t are faulty exactly if at most t named processes hold all that are not correct: those that are named, and a count against a list.
+-- At most so many processes pass a test, or are faulty, exactly if as many named ones hold all that do: those that are named, and a count against a list.
 use mathlib.Core.Path.{_≡_, refl, sym, _∙_}
 use mathlib.Core.Bool.{Bool, true, false, false≢true, cond, not, _&&_, and-eq-true-iff}
 use mathlib.Core.List.{List, [], _∷_, List·Memᴰ, List·Memᴰ·head, List·Memᴰ·tail, List·Memᴰ·not-nil, List·Memᴰ·cases-cons}
@@ -10,7 +10,7 @@ use lib.ListN.{length}
 use borrow.Author.Tests.{eqb-true, eqb-false, eq-eqb, ne-eqb}
 use borrow.Table.Steps.{cases}
 use Rattle.runs.specs.Correct.{correct, amount}
-use Rattle.runs.specs.Laws.{FewFaultyRule}
+use Rattle.runs.specs.Laws.{AmountRule, FewFaultyRule}
 use Rattle.runs.proofs.Counts.{amount-more}
 use Rattle.runs.proofs.Tests.{correct-rule}
 
@@ -79,7 +79,17 @@ amount-named (one ∷ named) test n k all =
     (List·Memᴰ·cases-cons (all j least most (parts .0)))) in
     omega (arith, rest, amount-but test one n k)
 
--- ---- the rule
+-- ---- the rules
+
+pub amount-rule : AmountRule
+amount-rule test n m = (
+  λ few. (
+    passing test n 1,
+    omega (arith, passing-length test n 1),
+    λ process some most h. passing-all test n 1 process some (omega arith) h,
+  ),
+  λ h. omega (arith, h .1, amount-named (h .0) test n 1 (λ process some most. h .2 process some (omega arith))),
+)
 
 pub few-faulty-rule : FewFaultyRule
 few-faulty-rule config calls = (
@@ -90,9 +100,11 @@ few-faulty-rule config calls = (
     all = λ process some most never. passing-all faulty (config .n) 1 process some (omega arith)
         (cases (correct config calls process) (λ e. absurd (never (correct-rule config calls process some most .0 e))) (λ e. rw e));
   },
-  λ n. let count = amount-named (n .named) faulty (config .n) 1 (λ process some most h.
-      n .all process some (omega arith) (λ c. false≢true (rw (correct-rule config calls process some (omega arith) .1 c) at h))) in
-      omega (arith, n .few),
+  λ n. amount-rule faulty (config .n) (config .t) .1 (
+    n .named,
+    n .few,
+    λ process some most h. n .all process some most (λ c. false≢true (rw (correct-rule config calls process some most .1 c) at h)),
+  ),
 )
   where
     faulty : ℕ → Bool

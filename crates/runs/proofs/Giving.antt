@@ -39,7 +39,7 @@ module _ {config : Config} {calls : List Call} {d : Decision} where
 giver : {config : Config} {calls : List Call} {d : Decision} → GivenOut config calls d → Giver config calls d
 giver (by-inserted turn occurs answer) = inl (turn, occurs, answer, says-own (turn .call .entry))
 giver (by-held turn occurs answer) = inr (inl (turn, occurs, answer, says-own (turn .reply .tuple)))
-giver (by-state process d has) = inr (inr (process, has))
+giver (by-state process d has) = inr (inr (process, has .correct, has .given))
 
 pub given-out-rule : GivenOutRule
 given-out-rule config calls d = (giver, back)
@@ -47,4 +47,4 @@ given-out-rule config calls d = (giver, back)
     back : Giver config calls d → GivenOut config calls d
     back (inl g) = gives-inserted (g .0) (g .1) (g .2) (g .3)
     back (inr (inl g)) = gives-held (g .0) (g .1) (g .2) (g .3)
-    back (inr (inr g)) = by-state (g .0) d (g .1)
+    back (inr (inr g)) = by-state (g .0) d (record { correct = g .1; given = g .2 })

@@ -21,12 +21,12 @@ use Rattle.runs.specs.Decisions.{DoneProposal, hasDoneProposal, callsOf}
 use Rattle.runs.specs.Theorem.{SoundConfig, turnOn}
 use Rattle.runs.proofs.Going.{within, between, fitting, DecidedIn, decided-or-busy, busy-call}
 use Rattle.runs.proofs.Monitoring.{has-more, skips, correct-skips}
+use Rattle.runs.proofs.OwnCalls.{calls-append, calls-other}
 use Rattle.runs.proofs.Promptness.{own-begun}
 use Rattle.runs.proofs.Proposing.{proposed-more}
 use Rattle.runs.proofs.Configs.{hypothesis}
 use Rattle.runs.proofs.Runs.{run-theorem}
 use Rattle.runs.proofs.Starting.{out-due}
-use Rattle.runs.proofs.Strays.{calls-append, calls-other}
 use Rattle.runs.proofs.Tests.{proposed-rule}
 use Rattle.runs.proofs.Turning.{turns-append}
 use Rattle.space.proofs.ConfigLaws.{sound-rule}

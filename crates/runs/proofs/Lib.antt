@@ -17,6 +17,7 @@ pub mod Inhabits
 pub mod Knowing
 pub mod MonitorLaws
 pub mod Monitoring
+pub mod OwnCalls
 pub mod Prompt
 pub mod Promptness
 pub mod Proposing

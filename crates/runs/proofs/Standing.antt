@@ -122,4 +122,4 @@ module _ {config : Config} {calls : List Call} (safe : SoundConfig config) (logg
       of : Giver config calls d → Stands (held (last config calls)) d
       of (inl g) = subst (Stands (held (last config calls))) (said (g .3)) (inserted-stands safe calls (g .1) (g .2))
       of (inr (inl g)) = subst (Stands (held (last config calls))) (said (g .3)) (held-stands safe calls (g .1) (g .2))
-      of (inr (inr g)) = logged (g .0) d (g .1)
+      of (inr (inr g)) = logged (g .0) d (record { correct = g .1; given = g .2 })

@@ -66,7 +66,7 @@ module _ {config : Config} (s : SoundConfig config) (m round : ℕ) (choice : �
   decision offset = record { round = round; offset = offset }
 
   given : (q : ℕ) (offset : Offset) → HasDecided config calls q (decision offset) → GivenOut config calls (decision offset)
-  given q offset has = given-out-rule config calls (decision offset) .1 (inr (inr (q, has)))
+  given q offset has = given-out-rule config calls (decision offset) .1 (inr (inr (q, has .correct, has .given)))
 
   abbrev theorem : Run config calls
   theorem = run-theorem config calls s

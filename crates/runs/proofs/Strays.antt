@@ -7,7 +7,7 @@ use mathlib.Core.Bool.{false}
 use mathlib.Core.List.{List, [], _∷_, _++_, List·Memᴰ, List·Memᴰ·not-nil, List·Memᴰ·append-cases, List·Memᴰ·eq-of-singleton}
 use lib.Dec.{eqb}
 use lib.ListN.{length}
-use borrow.Author.Tests.{eqb-true, eqb-false, eq-eqb, ne-eqb}
+use borrow.Author.Tests.{eqb-true, eqb-false, eq-eqb}
 use borrow.Table.Steps.{cases}
 use Rattle.process.specs.Procedure.{started}
 use Rattle.process.specs.States.{startable}
@@ -17,6 +17,7 @@ use Rattle.runs.specs.Decisions.{callsOf}
 use Rattle.runs.specs.Theorem.{SoundConfig, turnOn}
 use Rattle.runs.proofs.Configs.{config-sound, config-run, hypothesis}
 use Rattle.runs.proofs.Monitoring.{monitored-append, skips}
+use Rattle.runs.proofs.OwnCalls.{calls-rules}
 use Rattle.runs.proofs.Turning.{turns-append}
 use Rattle.space.specs.declared.config.Config.{Config}
 use Rattle.space.specs.declared.space.Space.{Space}
@@ -34,21 +35,6 @@ use Rattle.tuple.specs.declared.reply.Outcome.the-variants.{Refused}
 use Rattle.tuple.specs.Faults.{knownHead, fieldFault, fieldsFault, tupleFault, partFault, usesTemplate, usesEntry, usedFault, isBlank, placeBlank, restFrom, restBlank, callFault}
 use Rattle.tuple.specs.Fields.{blankField, blankTuple}
 use Rattle.tuple.specs.Refusals.{refusal}
-
--- ---- counts of calls
-
-pub calls-append : (q : ℕ) (a b : List Call) → callsOf q (a ++ b) ≡ callsOf q a + callsOf q b
-unfolding callsOf
-calls-append q [] b = omega arith
-calls-append q (call ∷ a) b = omega (arith, calls-append q a b)
-
-pub calls-own : (q : ℕ) (call : Call) → call .process ≡ q → callsOf q (call ∷ []) ≡ 1
-unfolding callsOf
-calls-own q call own = rw (eq-eqb (call .process) q own)
-
-pub calls-other : (q : ℕ) (call : Call) → (call .process ≡ q → ⊥) → callsOf q (call ∷ []) ≡ 0
-unfolding callsOf
-calls-other q call apart = rw (ne-eqb (call .process) q apart)
 
 -- ---- one call
 
@@ -153,9 +139,9 @@ module _ {config : Config} (s : SoundConfig config) where
               rw (List·Memᴰ·eq-of-singleton new) (stray-refused before newest (omega arith) few))
               (List·Memᴰ·append-cases (turns config before) (rw turns-append at occurs));
           once = up-to (λ q. callsOf q (before ++ (stray newest ∷ [])) ≡ 1)
-              (omega (arith, calls-append newest before (stray newest ∷ []), calls-own newest (stray newest) refl, a .never newest (inr (omega arith))))
-              (λ q low high. omega (arith, calls-append q before (stray newest ∷ []), calls-other q (stray newest) (λ e. omega arith), a .once q low high));
-          never = λ q apart. let o = outside q apart in omega (arith, calls-append q before (stray newest ∷ []), calls-other q (stray newest) (o .0), a .never q (o .1));
+              (omega (arith, calls-rules newest .own before (stray newest) refl, a .never newest (inr (omega arith))))
+              (λ q low high. calls-rules q .other before (stray newest) (λ e. omega arith) ∙ a .once q low high);
+          never = λ q apart. let o = outside q apart in calls-rules q .other before (stray newest) (o .0) ∙ a .never q (o .1);
         }
 
   pub all-astray : (m j : ℕ) → m + j ≤ config .n → Astray m j

@@ -13,9 +13,8 @@ use borrow.Author.Tests.{leb-true, leb-false, ltb-true, ltb-false, eqb-true, eqb
 use borrow.Table.Steps.{cases}
 use Rattle.process.specs.Laws.{NextRule}
 use Rattle.process.specs.Tallies.{foundOf, backing, settled}
-use Rattle.process.proofs.TallyLaws.{reading-ends}
+use Rattle.process.proofs.TallyLaws.{backs-rule, reading-ends}
 use Rattle.runs.specs.Correct.{amount}
-use Rattle.runs.proofs.Casting.{found-bottom}
 use Rattle.space.specs.declared.config.Config.{Config}
 use Rattle.tuple.specs.Offsets.{bottom}
 use Rattle.space.proofs.MemberLaws.{onward}
@@ -32,7 +31,7 @@ module _ (test : ℕ → Bool) where
   amount-found (suc n) k (code ∷ found) h =
       let rest = amount-found n (k + 1) found (λ j b t. h (suc j) (omega arith) (rw (onward k j) at t)) in
       cases (test k)
-      (λ t. rw (t, found-bottom code (h 0 (omega arith) (rw add-zero t))) (omega (arith, rest)))
+      (λ t. rw (t, backs-rule bottom code .1 (h 0 (omega arith) (rw add-zero t), λ other. absurd (other refl))) (omega (arith, rest)))
       (λ t. rw t (omega (arith, rest)))
 
   module _ (config : Config) (enough : config .n - config .t ≤ amount test (config .n) 1) where

@@ -24,6 +24,7 @@ use Rattle.space.specs.Configs.{sound}
 use Rattle.space.specs.Members.{Member, within, counted}
 use Rattle.space.specs.Spaces.{spaceOf, freshOf}
 use Rattle.policy.specs.Laws.{DecisionCall, BearsOffset, BearsBottom}
+use Rattle.policy.specs.ShapeLaws.{part}
 use Rattle.policy.specs.declared.verdicts.Verdict.the-variants.{Permit}
 use Rattle.policy.specs.Policies.{verdictOn}
 use Rattle.tuple.specs.Offsets.{bottom, codeOf}
@@ -32,7 +33,7 @@ use Rattle.tuple.specs.declared.field.Call.{Call}
 use Rattle.tuple.specs.declared.field.Tuple.{Tuple}
 use Rattle.tuple.specs.declared.offset.Offset.{Offset}
 use Rattle.tuple.specs.declared.offset.Offset.the-variants.{Bottom, Hundredths}
-use Rattle.tuple.specs.declared.reply.Outcome.the-variants.{Inserted, Held, Refused}
+use Rattle.tuple.specs.declared.reply.Outcome.the-variants.{Done, Inserted, Held, Refused}
 use Rattle.tuple.specs.declared.reply.Reply.{Reply}
 use Rattle.tuple.specs.Fields.{cas}
 use Rattle.tuple.specs.Refusals.{refusal}
@@ -54,6 +55,38 @@ abbrev pub DoneProposalRule : Type 0
 DoneProposalRule =
     (test : ℕ → Bool) (list : List Turn) (round process : ℕ)
     → (hasDoneProposal test list round process ≡ true) ↔ ((offset : Offset) × DoneProposal list round process offset × (test (codeOf offset) ≡ true))
+
+-- an out (1) of (word 1, count r, count q, offset v) under its number was answered done; kinds 1 word, 2 count, 3 offset, and state 0
+pub record OutDone (list : List Turn) (round process : ℕ) (offset : Offset) : Type 0 where
+  pub turn : Turn
+  pub occurs : List·Memᴰ turn list
+  pub own : turn .call .process ≡ process
+  pub code : turn .call .code ≡ 1
+  pub done : turn .reply .outcome ≡ Done
+  pub count : turn .call .entry .count ≡ 4
+  pub first : field (turn .call .entry) 0 ≡ part 1 0 1
+  pub second : field (turn .call .entry) 1 ≡ part 2 0 round
+  pub third : field (turn .call .entry) 2 ≡ part 2 0 process
+  pub fourth : field (turn .call .entry) 3 ≡ part 3 0 (codeOf offset)
+
+-- it has proposed the offset in the round exactly so
+abbrev pub OutDoneRule : Type 0
+OutDoneRule = (list : List Turn) (round process : ℕ) (offset : Offset) → DoneProposal list round process offset ↔ OutDone list round process offset
+
+-- how many calls of a list are under a process's number: none of none, one more with one of its own, whatever it is, and no more with another's
+pub record CallsRule (process : ℕ) : Type 0 where
+  pub none : callsOf process [] ≡ 0
+  pub own : (calls : List Call) (call : Call) → call .process ≡ process → callsOf process (calls ++ (call ∷ [])) ≡ callsOf process calls + 1
+  pub other : (calls : List Call) (call : Call) → (call .process ≡ process → ⊥) → callsOf process (calls ++ (call ∷ [])) ≡ callsOf process calls
+
+abbrev pub CallsRules : Type 0
+CallsRules = (process : ℕ) → CallsRule process
+
+-- at most m of the processes 1 to n pass a test exactly if at most m are named, and among them all that pass
+abbrev pub AmountRule : Type 0
+AmountRule =
+    (test : ℕ → Bool) (n m : ℕ)
+    → (amount test n 1 ≤ m) ↔ ((named : List ℕ) × (length named ≤ m) × ((process : ℕ) → 1 ≤ process → process ≤ n → test process ≡ true → List·Memᴰ process named))
 
 -- ---- what a correct process may call, and what becomes of it
 
@@ -125,12 +158,12 @@ pub record Says (tuple : Tuple) (d : Decision) : Type 0 where
   pub second : field tuple 1 .value ≡ d .round
   pub third : field tuple 2 .value ≡ codeOf (d .offset)
 
--- a turn answered inserted whose entry says it, or held whose held tuple does, or a correct process that has decided it
+-- a turn answered inserted whose entry says it, or held whose held tuple does, or a correct process to which a handing gave it (`MonitorRule`)
 abbrev pub Giver : Config → List Call → Decision → Type 0
 Giver config calls d =
     ((turn : Turn) × List·Memᴰ turn (turns config calls) × (turn .reply .outcome ≡ Inserted) × Says (turn .call .entry) d)
     ⊎ ((turn : Turn) × List·Memᴰ turn (turns config calls) × (turn .reply .outcome ≡ Held) × Says (turn .reply .tuple) d)
-    ⊎ ((process : ℕ) × HasDecided config calls process d)
+    ⊎ ((process : ℕ) × Correct config calls process × List·Memᴰ d (decisionsOf config calls process))
 
 -- each of these gives it out, and nothing else does, whatever the configuration; under policies 2 and 3 these are decisions
 abbrev pub GivenOutRule : Type 0

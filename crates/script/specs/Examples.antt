@@ -212,14 +212,18 @@ rows =
     ∷ ("01 00 00" prints "board 1 0 0" ∷ "" prints "tuples 0" ∷ [])
     ∷ ("0F 04 02" prints "board 15 4 2" ∷ "" prints "tuples 0" ∷ [])
     ∷ ("0A 01 03 08" prints "board 10 1 3 8" ∷ "" prints "tuples 0" ∷ [])
-    -- set-ups that end too early: at once, inside t, before k, and before k where n would be refused 1
+    -- set-ups that end too early: at once, inside t, before the policy number, before k, and before k where n would be refused 1
     ∷ ("" prints "refused 2" ∷ [])
     ∷ ("04 81" prints "refused 2" ∷ [])
+    ∷ ("04 01" prints "refused 2" ∷ [])
     ∷ ("04 01 03" prints "refused 2" ∷ [])
     ∷ ("00 01 03" prints "refused 2" ∷ [])
-    -- numbers of a set-up that are not shortest, or too long
+    -- numbers of a set-up that are not shortest, or too long: n, t, the policy number, k
     ∷ ("84 00 01 02" prints "refused 3" ∷ [])
+    ∷ ("04 82 00 02" prints "refused 3" ∷ [])
     ∷ ("04 FF FF FF FF 10 02" prints "refused 3" ∷ [])
+    ∷ ("04 01 82 00" prints "refused 3" ∷ [])
+    ∷ ("04 01 03 80 00" prints "refused 3" ∷ [])
     -- set-ups that are not sound: no process, sixteen, n below 3t + 1 (also where 3t + 1 would wrap), policy 6
     ∷ ("00 00 02" prints "refused 1" ∷ [])
     ∷ ("10 00 02" prints "refused 1" ∷ [])

@@ -12,6 +12,7 @@ use Rattle.tuple.specs.declared.offset.Offset.{Offset}
 use Rattle.tuple.specs.declared.offset.Offset.the-variants.{Bottom, Hundredths}
 use Rattle.tuple.specs.declared.field.Field.{Field}
 use Rattle.tuple.specs.declared.field.Tuple.{Tuple}
+use Rattle.tuple.specs.declared.field.Call.{Call}
 use Rattle.tuple.specs.declared.matching.Found.the-variants.{At, Nowhere}
 use Rattle.tuple.specs.Fields.{blankField, blankTuple, blankCall}
 use Rattle.tuple.specs.Matching.{matches, oldestOf}
@@ -27,14 +28,20 @@ Numbered = (r : Refusal) → refusal (numberOf r) ≡ r
 abbrev pub NumberedBack : Type 0
 NumberedBack = (number : ℕ) → 1 ≤ number → number ≤ 15 → numberOf (refusal number) ≡ number
 
--- what is blank: every part is zero, in each of six places
+-- what is blank, in numbers: a field of zeros, a tuple with no field, and the call where there is none
 abbrev pub zeros : Field
 zeros = record { kind = 0; state = 0; value = 0 }
 
+abbrev pub nothing : Tuple
+nothing = record { count = 0; fields = zeros ∷ zeros ∷ zeros ∷ zeros ∷ zeros ∷ zeros ∷ [] }
+
+abbrev pub noCall : Call
+noCall = record { process = 0; code = 0; template = nothing; entry = nothing }
+
 pub record BlankRule : Type 0 where
   pub field : blankField ≡ zeros
-  pub tuple : blankTuple ≡ record { count = 0; fields = zeros ∷ zeros ∷ zeros ∷ zeros ∷ zeros ∷ zeros ∷ [] }
-  pub call : blankCall ≡ record { process = 0; code = 0; template = blankTuple; entry = blankTuple }
+  pub tuple : blankTuple ≡ nothing
+  pub call : blankCall ≡ noCall
 
 -- the coding is one to one between the offsets in range, bottom among them, and the numbers from 0 to the largest code
 pub record OneToOne : Type 0 where

@@ -15,9 +15,12 @@ use reference::dump::LONGEST_DUMP;
 use reference::fields::{MOST_FIELDS, MOST_SEATS};
 use reference::flat;
 use reference::list::LAST_POSITION;
+use reference::numbers::write_number;
 use reference::policy::LAST_ROUND;
 use reference::records::record_of;
-use reference::{Answer, AnswerKind, Board, Call, Config, Field, Kind, Offset, Phase, Refusal, Seat, Tuple};
+use reference::{
+    Answer, AnswerKind, Board, Call, Code, Config, Field, Kind, Offset, Phase, Refusal, Seat, Tuple,
+};
 
 fn count(kind: &str, inputs: usize, note: String) {
     println!("compared {inputs:>7} {kind}: {note}");
@@ -31,7 +34,7 @@ fn records_read() {
     let (mut inputs, mut sound) = (0, 0);
     for _ in 0..40_000 {
         let mut bytes = match dice.below(8) {
-            // Any bytes, and a record with one value out of its range.
+            // Any bytes, and a record with others behind it.
             0 => (0..dice.below(40)).map(|_| dice.pick(&likely)).collect(),
             1 => {
                 let call = good_call(&mut dice);
@@ -68,6 +71,15 @@ fn records_read() {
         let bytes = record(&good_call(&mut dice));
         for cut in 0..=bytes.len() {
             compare_read(&bytes[..cut], 0);
+            inputs += 1;
+        }
+    }
+    // A field of each kind with every value at a bound, and beyond, in an entry and in a template.
+    for (kind, value) in Kind::ALL.into_iter().flat_map(|kind| VALUES.map(|value| (kind, value))) {
+        for code in [Code::Out, Code::Rdp] {
+            let mut bytes = vec![1, code as u8, 1, 4 * kind as u8];
+            write_number(value.min(u32::MAX.into()) as u32, &mut bytes);
+            compare_read(&bytes, 0);
             inputs += 1;
         }
     }

@@ -4,7 +4,7 @@ use crate::board::{AnswerKind, Board, MOST_TUPLES};
 use crate::config::{Config, BARE, LIST, STRONG, WAIT_FREE, WEAK};
 use crate::fields::{Field, Kind, Tuple, DECISION, MOST_FIELDS};
 use crate::numbers::{write_number, LONGEST_NUMBER};
-use crate::records::{record_of, Call};
+use crate::records::{push_record, Call};
 use crate::refusal::Refusal;
 
 /// The longest script that is written: a set-up of three bytes, then 128 outs
@@ -39,7 +39,7 @@ pub fn script_of(board: &Board) -> Result<Vec<u8>, Refusal> {
         if !appends(&mut run, &call) {
             return Err(Refusal::Unreached);
         }
-        script.extend(record_of(&call)?);
+        push_record(&call, &mut script)?;
     }
     Ok(script)
 }

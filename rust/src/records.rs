@@ -189,16 +189,8 @@ pub fn read_record(bytes: &[u8]) -> Result<(Call, usize), Refusal> {
 
 /// The record of a call.
 pub fn record_of(call: &Call) -> Result<Vec<u8>, Refusal> {
-    let code = call.check()?;
     let mut record = Vec::with_capacity(LONGEST_RECORD);
-    write_number(call.process, &mut record);
-    write_number(code as u32, &mut record);
-    if code.has_template() {
-        push_tuple(&call.template, &mut record);
-    }
-    if code.has_entry() {
-        push_tuple(&call.entry, &mut record);
-    }
+    push_record(call, &mut record)?;
     Ok(record)
 }
 
@@ -209,6 +201,20 @@ pub fn write_record(call: &Call, buffer: &mut [u8]) -> Result<usize, Refusal> {
     let lent = buffer.get_mut(..record.len()).ok_or(Refusal::Buffer)?;
     lent.copy_from_slice(&record);
     Ok(record.len())
+}
+
+/// Appends the record of a call.
+pub(crate) fn push_record(call: &Call, record: &mut Vec<u8>) -> Result<(), Refusal> {
+    let code = call.check()?;
+    write_number(call.process, record);
+    write_number(code as u32, record);
+    if code.has_template() {
+        push_tuple(&call.template, record);
+    }
+    if code.has_entry() {
+        push_tuple(&call.entry, record);
+    }
+    Ok(())
 }
 
 /// Appends a checked tuple.

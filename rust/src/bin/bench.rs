@@ -1,5 +1,5 @@
 //! The proved library and the plain Rust version side by side: same inputs, interleaved, medians of many rounds. Where a board is handed in
-//! (b and f) both sides test that it is well formed, at every call; in scripts (c to e), whose board nobody else writes, neither does.
+//! (b, d and f) both sides test that it is well formed, at every call; in scripts (c and e), whose board nobody else writes, neither does.
 //!
 //!     bench [the proved program board] [the Rust program board]
 //!

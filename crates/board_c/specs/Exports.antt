@@ -41,7 +41,7 @@ pub record Exports : Type 0 where
   pub start : (config : Config) (process round : ℕ) (z : ℤ) → started config process round 0 z ≡ flatStep (processStarted config process round (Hundredths z))
   pub start-bottom : (config : Config) (process round bottom : ℕ) (z : ℤ) → 1 ≤ bottom
       → started config process round bottom z ≡ flatStep (processStarted config process round Bottom)
-  -- board_resume: a state whose number is a phase's, and a reply; `Numbers.state-none` has the other states
+  -- board_resume: a state whose number is a phase's, with a value that the phase has, and a reply; `Numbers.state-none` has the other states
   pub resume : (process : FlatProcess) (reply : FlatReply) → isPhase (process .phase) (process .value) ≡ true
       → resumed process reply ≡ flatStep (processResumed (processOf process) (replyOf reply))
   -- board_read: bytes, and the place where to read

@@ -118,7 +118,7 @@ CasOffsetRule =
     → (decidedCode (call .entry) ≡ 0 → ⊥)
     → (verdictOn config tuples call ≡ Permit) ↔ (DecisionCall config call × BearsOffset config tuples (call .entry))
 
--- and nothing else is permitted under policies 2 and 3
+-- only out, rdp and cas are ever permitted under policies 2 and 3
 abbrev pub JustifiedOnly : Type 0
 JustifiedOnly =
     (config : Config) (tuples : List Tuple) (call : Call)

@@ -49,7 +49,7 @@ noProcess = record { config = record { n = 0; t = 0; policy = 0; k = 0 }; proces
 abbrev pub ReachableRule : Type 0
 ReachableRule = (process : Process) → length (process .found) ≡ 15 → (wellFormed process ≡ true) ↔ Reachable process
 
--- well formed is also what starting gives, and what a fitting reply makes of a well-formed state
+-- so well formed is what a start that is not refused gives, and what a fitting reply makes of a well-formed state, each with 15 places
 pub record FormedRule : Type 0 where
   pub starts : (config : Config) (process round : ℕ) (offset : Offset) → started config process round offset .next ≡ Calls
       → (wellFormed (started config process round offset .process) ≡ true) × (length (started config process round offset .process .found) ≡ 15)

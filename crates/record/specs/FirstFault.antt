@@ -8,7 +8,7 @@ use Rattle.record.specs.declared.head.Head.the-variants.{Known, Unknown}
 use Rattle.record.specs.declared.reader.Next.the-variants.{Refused}
 use Rattle.record.specs.Heads.{headOf}
 use Rattle.record.specs.Reading.{place, readNumber, fieldAt, tupleAt, callAt}
-use Rattle.tuple.specs.Fields.{blankField, blankTuple, blankCall}
+use Rattle.tuple.specs.Laws.{zeros, nothing, noCall}
 use Rattle.tuple.specs.Refusals.{refusal}
 use Rattle.varint.specs.declared.Number.the-variants.{Value, Cut, Overlong}
 use Rattle.varint.specs.Reading.{numberAt}
@@ -68,13 +68,13 @@ pub data CallStops (s : List ℕ) (at : ℕ) : ℕ → Type 0 where
   in-entry-of-out : (next r : ℕ) → Coded s at 1 next → TupleStops true s next r → CallStops s at r
   in-entry-of-cas : (next entry r : ℕ) → Coded s at 4 next → tupleAt false s next .next ≡ place entry → TupleStops true s entry r → CallStops s at r
 
--- ---- the claim: each is answered with its refusal, and with a blank value beside it
+-- ---- the claim: each is answered with its refusal, and with zeros beside it
 
 pub record FirstFault (s : List ℕ) (at r : ℕ) : Type 0 where
   pub number : Unread s at r → readNumber s at ≡ record { next = Refused (refusal r); value = 0 }
-  pub field : (entry : Bool) → FieldStops entry s at r → fieldAt entry s at ≡ record { next = Refused (refusal r); field = blankField }
-  pub tuple : (entry : Bool) → TupleStops entry s at r → tupleAt entry s at ≡ record { next = Refused (refusal r); tuple = blankTuple }
-  pub call : CallStops s at r → callAt s at ≡ record { next = Refused (refusal r); call = blankCall }
+  pub field : (entry : Bool) → FieldStops entry s at r → fieldAt entry s at ≡ record { next = Refused (refusal r); field = zeros }
+  pub tuple : (entry : Bool) → TupleStops entry s at r → tupleAt entry s at ≡ record { next = Refused (refusal r); tuple = nothing }
+  pub call : CallStops s at r → callAt s at ≡ record { next = Refused (refusal r); call = noCall }
 
 abbrev pub FirstFaults : Type 0
 FirstFaults = (s : List ℕ) (at r : ℕ) → FirstFault s at r

@@ -15,7 +15,7 @@ use Rattle.record.specs.FirstFault.FieldStops.{head-unread, unknown-head
 use Rattle.record.specs.FirstFault.Past.{none, more}
 use Rattle.record.specs.FirstFault.TupleStops.{count-unread, miscounted, at-field}
 use Rattle.record.specs.FirstFault.CallStops.{process-unread, code-unread, unknown-code, in-template, in-entry-of-out, in-entry-of-cas}
-use Rattle.record.specs.Reading.{place, numberStep, readNumber, valueAt, fieldAt, fieldsAt, tupleAt, partAt, partsAt, bodyAt, callAt}
+use Rattle.record.specs.Reading.{place, numberStep, readNumber, valueAt, fieldAt, fieldsAt, tupleAt, partAt, partsAt, isCode, bodyAt, callAt}
 use Rattle.tuple.specs.Faults.{usesTemplate, usesEntry}
 use Rattle.tuple.specs.Fields.{largestOf, blankField, blankTuple, blankCall}
 use Rattle.tuple.specs.Refusals.{refusal}
@@ -27,6 +27,9 @@ use Rattle.varint.specs.Reading.{numberAt}
 
 outside : (least n most : ℕ) → ((least ≤ n) × (n ≤ most) → ⊥) → leb least n && leb n most ≡ false
 outside least n most never = cases (leb least n && leb n most) (λ e. absurd (never (between least n most e))) (λ e. e)
+
+unknown : (code : ℕ) → ((1 ≤ code) × (code ≤ 4) → ⊥) → isCode code ≡ false
+unknown code = outside 1 code 4
 
 beyond : (kind value : ℕ) → BeyondKind kind value → leb value (largestOf kind) ≡ false
 unfolding largestOf
@@ -80,7 +83,7 @@ module _ (s : List ℕ) where
   call-stops at r (process-unread q why) = rw (number-stops at q why)
   call-stops at r (code-unread process next q e why) = rw (number-read at process next e, number-stops next q why)
   call-stops at r (unknown-code code next coded never) =
-      rw (number-read at _ _ (coded .first), number-read (coded .behind) code next (coded .second), outside 1 code 4 never)
+      rw (number-read at _ _ (coded .first), number-read (coded .behind) code next (coded .second), unknown code never)
   call-stops at r (in-template code next q coded low high why) =
       rw (
         number-read at _ _ (coded .first),

@@ -1,9 +1,14 @@
-/* A client of the proved library: the worked script's text, its seven calls one by one, and a round that four seats settle. */
+/* A client of the proved library: the worked script's text, its first call made by hand, its seven calls one by one, and a round that four seats
+ * settle. */
+#include <inttypes.h>
 #include <stdio.h>
+#include <string.h>
 
 #include "board.h"
 
 /* ---- the worked script of document 01 */
+
+enum { SET_UP = 3, FIRST = 11 }; /* the bytes of its set-up, and of its first record */
 
 static const uint8_t worked[] = {
     0x04, 0x01, 0x02,                                                                   /* four seats, one may stray, policy 2 */
@@ -23,25 +28,23 @@ static uint8_t text[BOARD_TEXT_BYTES];
 /* ---- what is printed */
 
 static void print_field(board_field field) {
-    static const char letters[] = {'?', 'w', 'c', 'o', 's'};
-    unsigned long long value = field.value;
-    putchar(' ');
-    putchar(field.kind < sizeof letters ? letters[field.kind] : '?');
-    if (field.kind != BOARD_OFFSET_CODE) {
-        printf("%llu", value);
-    } else if (value == BOARD_MARK) {
+    static const char letters[] = {[BOARD_KIND_WORD] = 'w', [BOARD_KIND_COUNT] = 'c', [BOARD_KIND_OFFSET] = 'o', [BOARD_KIND_SEATS] = 's'};
+    printf(" %c", letters[field.kind]);
+    if (field.kind != BOARD_KIND_OFFSET) {
+        printf("%" PRIu64, field.value);
+    } else if (board_is_mark(field.value)) {
         putchar('_');
-    } else if (value % 2 == 1) {
-        printf("%llu", value / 2);
     } else {
-        printf("-%llu", value / 2);
+        printf("%" PRId32, board_hundredths(field.value));
     }
 }
 
 static void print_reply(board_reply reply) {
-    static const char *const outcomes[] = {"done", "none", "found", "inserted", "held", "refused"};
+    static const char *const outcomes[] = {
+        [BOARD_OUTCOME_DONE] = "done",         [BOARD_OUTCOME_NONE] = "none", [BOARD_OUTCOME_FOUND] = "found",
+        [BOARD_OUTCOME_INSERTED] = "inserted", [BOARD_OUTCOME_HELD] = "held", [BOARD_OUTCOME_REFUSED] = "refused"};
     printf("%s", outcomes[reply.outcome]);
-    if (reply.outcome == BOARD_REFUSED) {
+    if (reply.outcome == BOARD_OUTCOME_REFUSED) {
         printf(" %u", (unsigned)reply.refusal);
     }
     for (size_t i = 0; i < reply.tuple.count; i++) {
@@ -50,28 +53,54 @@ static void print_reply(board_reply reply) {
     putchar('\n');
 }
 
-/* ---- the script whole, and call by call */
+/* says why something is refused that should not be */
+static int refused(const char *what, uint64_t refusal) {
+    fprintf(stderr, "%s: refused %" PRIu64 ", %s\n", what, refusal, board_refusal_text(refusal));
+    return 1;
+}
+
+/* ---- the script whole, its first call made by hand, and call by call */
 
 static int whole(void) {
     uint64_t length = board_script(worked, sizeof worked, text, sizeof text);
     if (length >= BOARD_REFUSED_LENGTH) {
-        return 1;
+        return refused("the script's text", length - BOARD_REFUSED_LENGTH);
     }
     fwrite(text, 1, (size_t)length, stdout);
     return 0;
 }
 
+/* seat 1 proposes -40 in round 0: what is not named is zero, the template and the state BOARD_STATE_GIVEN too */
+static int by_hand(void) {
+    board_call call = {.process = 1, .code = BOARD_CALL_OUT};
+    uint8_t record[BOARD_RECORD_BYTES];
+    call.entry.count = 4;
+    call.entry.fields[0] = (board_field){.kind = BOARD_KIND_WORD, .value = BOARD_WORD_PROPOSE};
+    call.entry.fields[1] = (board_field){.kind = BOARD_KIND_COUNT, .value = 0};
+    call.entry.fields[2] = (board_field){.kind = BOARD_KIND_COUNT, .value = 1};
+    call.entry.fields[3] = (board_field){.kind = BOARD_KIND_OFFSET, .value = board_code(-40)};
+    uint64_t length = board_write(call, record, sizeof record);
+    if (length >= BOARD_REFUSED_LENGTH) {
+        return refused("a record", length - BOARD_REFUSED_LENGTH);
+    }
+    if (length != FIRST || memcmp(record, worked + SET_UP, FIRST) != 0) {
+        fputs("the record is not the script's first\n", stderr);
+        return 1;
+    }
+    return 0;
+}
+
 static int by_calls(board_space space) {
-    size_t at = 3;
+    size_t at = SET_UP;
     while (at < sizeof worked) {
         board_read_call read = board_read(worked, sizeof worked, at);
-        if (read.refusal != 0) {
-            return 1;
+        if (read.refusal != BOARD_REFUSAL_NONE) {
+            return refused("a reading", read.refusal);
         }
         board_applied applied = board_apply(space, read.call);
         space = applied.space;
         at = read.next;
-        printf("seat %u ", (unsigned)read.call.process);
+        printf("seat %" PRIu32 " ", read.call.process);
         print_reply(applied.reply);
     }
     return 0;
@@ -84,29 +113,29 @@ static int settle(board_space space, const int32_t *offsets, uint32_t seats) {
     uint32_t open = seats;
     for (uint32_t i = 0; i < seats; i++) {
         steps[i] = board_start(space.config, i + 1, 0, 0, offsets[i]);
-        if (steps[i].next != BOARD_CALLS) {
-            return 1;
+        if (steps[i].next == BOARD_STEP_REFUSED) {
+            return refused("a start", steps[i].refusal);
         }
     }
     while (open > 0) {
         for (uint32_t i = 0; i < seats; i++) {
-            if (steps[i].next != BOARD_CALLS) {
+            if (steps[i].next != BOARD_STEP_CALLS) {
                 continue;
             }
             board_applied applied = board_apply(space, steps[i].call);
             space = applied.space;
-            printf("seat %u ", (unsigned)(i + 1));
+            printf("seat %" PRIu32 " ", i + 1);
             print_reply(applied.reply);
             steps[i] = board_resume(steps[i].process, applied.reply);
             if (steps[i].next == BOARD_STEP_REFUSED) {
-                return 1;
+                return refused("an answer", steps[i].refusal);
             }
-            if (steps[i].next == BOARD_DECIDES) {
-                printf("seat %u decides ", (unsigned)(i + 1));
+            if (steps[i].next == BOARD_STEP_DECIDES) {
+                printf("seat %" PRIu32 " decides ", i + 1);
                 if (steps[i].bottom) {
                     puts("the mark");
                 } else {
-                    printf("%d\n", (int)steps[i].hundredths);
+                    printf("%" PRId32 "\n", steps[i].hundredths);
                 }
                 open--;
             }
@@ -117,10 +146,10 @@ static int settle(board_space space, const int32_t *offsets, uint32_t seats) {
 
 int main(void) {
     static const int32_t offsets[] = {-40, 40, 40, -40};
-    board_config config = {.n = 4, .t = 1, .policy = 2, .k = 0};
+    board_config config = {.n = 4, .t = 1, .policy = BOARD_POLICY_DEFAULT, .k = 0};
     board_opened opened = board_fresh(config);
-    if (opened.refusal != 0) {
-        return 1;
+    if (opened.refusal != BOARD_REFUSAL_NONE) {
+        return refused("a fresh board", opened.refusal);
     }
-    return whole() || by_calls(opened.space) || settle(opened.space, offsets, 4);
+    return whole() || by_hand() || by_calls(opened.space) || settle(opened.space, offsets, 4);
 }

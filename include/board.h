@@ -1,84 +1,173 @@
-/* The shared offset board, for C: the functions of crates/board_c, proved, in target/staticlib/libboard_c.a (`rt staticlib board_c`), on x86-64.
+/* The shared offset board, for C from C11 on and C++ from C++11 on: the functions of crates/board_c, proved, in target/staticlib/libboard_c.a
+ * (`rt staticlib board_c`), a static library for x86-64 Linux and for no other target. Header and library must be of the same checkout.
  *
  * Structs cross by value, a slice as its pointer and its length, and a number stands for each case of an enum. Every function has an answer for every
  * number and struct that is passed, and keeps none of them. A pointer must be valid for that many bytes, writable where the function writes, and two
- * slices of one call must not overlap; a pointer beside the length 0 is not read. "Stack" is what a call was measured to need, with what is passed and
- * what comes back. */
+ * slices of one call must not overlap; a pointer beside the length 0 is not read. docs/FIRMWARE.md has the stack that each function needs. */
 #ifndef BOARD_H
 #define BOARD_H
+
+#if !defined(__x86_64__) || !defined(__linux__)
+#error "the shared offset board is a library for x86-64 Linux only"
+#endif
 
 #include <stddef.h>
 #include <stdint.h>
 
+/* 207 is document 01 with the requests 2.1 to 2.7 of document 02. It grows with each request that lands: with 2.8 it is 208. */
+#define BOARD_VERSION 207
+
+#ifdef __cplusplus
+#define BOARD_ASSERT static_assert
+#define BOARD_CAST(type, value) static_cast<type>(value)
+extern "C" {
+#else
+#define BOARD_ASSERT _Static_assert
+#define BOARD_CAST(type, value) ((type)(value))
+#endif
+
 /* ---- bounds */
 
 enum {
-    BOARD_SEATS = 15,            /* the most seats */
-    BOARD_ROUNDS = 8,            /* rounds are 0 to 7 */
-    BOARD_FIELDS = 6,            /* the most fields of a tuple */
-    BOARD_TUPLES = 128,          /* the most tuples of a board */
-    BOARD_SCRIPT_BYTES = 65536,  /* the most bytes of a script */
-    BOARD_TEXT_BYTES = 1048640,  /* a buffer of this size has room for every script's text */
-    BOARD_RECORD_BYTES = 80,     /* and one of this size for every record */
-    BOARD_DUMP_BYTES = 4995,     /* and one of this size for every board written back as a script */
-    BOARD_OFFSET = 100000        /* offsets are hundredths of a needle space, from minus this to this */
+    BOARD_SEATS = 15,              /* the most seats */
+    BOARD_ROUNDS = 8,              /* rounds are 0 to 7 */
+    BOARD_CHOICES = 8,             /* the most choices of policy 3: k is 2 to this */
+    BOARD_POSITIONS = 112,         /* the last position of the shared list; the first is 1 */
+    BOARD_FIELDS = 6,              /* the most fields of a tuple */
+    BOARD_TUPLES = 128,            /* the most tuples of a board */
+    BOARD_LARGEST_OFFSET = 100000, /* offsets are hundredths of a needle space, from minus this to this */
+    BOARD_SCRIPT_BYTES = 65536,    /* the most bytes of a script */
+    BOARD_TEXT_BYTES = 1048640,    /* a buffer of this size has room for every script's text */
+    BOARD_RECORD_BYTES = 80,       /* and one of this size for every record */
+    BOARD_DUMP_BYTES = 4995        /* and one of this size for every board written back as a script */
 };
 
-/* ---- numbers */
+/* ---- numbers, by what they are: each name has the sort behind BOARD_ */
+
+/* what the board permits */
+enum {
+    BOARD_POLICY_BARE = 0,     /* everything */
+    BOARD_POLICY_WEAK = 1,     /* one decision a round */
+    BOARD_POLICY_DEFAULT = 2,  /* one decision a round that proposals bear, or the mark */
+    BOARD_POLICY_CHOICE = 3,   /* one decision a round among k choices, never the mark */
+    BOARD_POLICY_LIST = 4,     /* the shared list */
+    BOARD_POLICY_ANNOUNCED = 5 /* the shared list with announcements */
+};
 
 /* what a call is */
-enum { BOARD_OUT = 1, BOARD_RDP = 2, BOARD_INP = 3, BOARD_CAS = 4 };
+enum { BOARD_CALL_OUT = 1, BOARD_CALL_RDP = 2, BOARD_CALL_INP = 3, BOARD_CALL_CAS = 4 };
 
-/* a field's kind, and its state: a template's field may be any or open */
-enum { BOARD_WORD = 1, BOARD_COUNT = 2, BOARD_OFFSET_CODE = 3, BOARD_SEAT_SET = 4 };
-enum { BOARD_GIVEN = 0, BOARD_ANY = 1, BOARD_OPEN = 2 };
+/* a field's kind, with the values that it takes */
+enum {
+    BOARD_KIND_WORD = 1,   /* 0 to 255 */
+    BOARD_KIND_COUNT = 2,  /* 0 to 4,294,967,295 */
+    BOARD_KIND_OFFSET = 3, /* the code of an offset, or the mark */
+    BOARD_KIND_SEATS = 4   /* a set of seats: seat q is the bit worth 2 to the power q - 1 */
+};
 
-/* the first word of a tuple that a policy knows: a proposal, a decision, an entry of the shared list, an announcement */
-enum { BOARD_PROPOSE = 1, BOARD_DECISION = 2, BOARD_LISTED = 3, BOARD_ANNOUNCED = 4 };
+/* a field's state: a template's field may be any or open */
+enum { BOARD_STATE_GIVEN = 0, BOARD_STATE_ANY = 1, BOARD_STATE_OPEN = 2 };
 
-/* the value of an offset's field: 0 is the mark, 1 + 2z is z from zero up, -2z is z below zero */
-#define BOARD_MARK 0u
-#define BOARD_CODE(z) ((z) < 0 ? (uint64_t)(-2 * (int64_t)(z)) : (uint64_t)(1 + 2 * (int64_t)(z)))
+/* the first word of a tuple that a policy knows, with the fields behind it */
+enum {
+    BOARD_WORD_PROPOSE = 1,  /* a proposal: count round, count seat, offset */
+    BOARD_WORD_DECISION = 2, /* a decision: count round, offset, and under policies 2 and 3 the seats that bear it */
+    BOARD_WORD_LISTED = 3,   /* an entry of the shared list: count position, count seat, count serial, offset */
+    BOARD_WORD_ANNOUNCED = 4 /* an announcement: count seat, count serial, offset */
+};
 
 /* what a call was answered */
 enum {
-    BOARD_DONE = 0,
-    BOARD_NONE = 1,
-    BOARD_FOUND = 2,
-    BOARD_INSERTED = 3,
-    BOARD_HELD = 4,
-    BOARD_REFUSED = 5
+    BOARD_OUTCOME_DONE = 0,
+    BOARD_OUTCOME_NONE = 1,
+    BOARD_OUTCOME_FOUND = 2,
+    BOARD_OUTCOME_INSERTED = 3,
+    BOARD_OUTCOME_HELD = 4,
+    BOARD_OUTCOME_REFUSED = 5
 };
 
 /* where a seat's procedure stands: its out, a reading, its cas, or the decision */
-enum { BOARD_PROPOSING = 0, BOARD_READING = 1, BOARD_DECIDING = 2, BOARD_DECIDED = 3 };
+enum { BOARD_PHASE_PROPOSING = 0, BOARD_PHASE_READING = 1, BOARD_PHASE_DECIDING = 2, BOARD_PHASE_DECIDED = 3 };
 
 /* what a seat does next: the call beside it, nothing more for it has decided, or nothing for it was refused */
-enum { BOARD_CALLS = 0, BOARD_DECIDES = 1, BOARD_STEP_REFUSED = 2 };
+enum { BOARD_STEP_CALLS = 0, BOARD_STEP_DECIDES = 1, BOARD_STEP_REFUSED = 2 };
 
-/* why something is refused; 0 beside what is not */
+/* why something is refused; board_refusal_text has the words */
 enum {
-    BOARD_UNSOUND = 1,          /* a set-up, a board or a seat's state that is not well formed */
-    BOARD_CUT = 2,              /* the bytes end inside a number or a record */
-    BOARD_BEYOND = 3,           /* a number too long or not shortest, a value beyond its kind; of a start, a round above 7 or no offset to propose */
-    BOARD_UNKNOWN = 4,          /* an unknown call, or an unknown kind or state of a field */
-    BOARD_MISSHAPEN = 5,        /* no field or more than six, an entry's field that is not given, an unused part that is not zero */
-    BOARD_STRANGER = 6,         /* seat 0, or one above n */
-    BOARD_DENIED = 7,           /* the policy does not permit the call, for another cause than 12 and 13 */
-    BOARD_FULL = 8,             /* the board holds 128 tuples */
-    BOARD_LONG_SCRIPT = 9,      /* a script of more than 65,536 bytes */
-    BOARD_NO_ROOM = 10,         /* the buffer is too short */
-    BOARD_UNFIT = 11,           /* the reply does not fit the seat's state */
-    BOARD_SECOND_PROPOSAL = 12, /* the seat has proposed in that round */
-    BOARD_UNBORNE = 13,         /* the set of a cas does not bear its offset */
-    BOARD_UNREACHED = 14,       /* no script ends in that board */
-    BOARD_UNSCRIPTED = 15       /* a board of policy 5 is not written back as a script */
+    BOARD_REFUSAL_NONE = 0,
+    BOARD_REFUSAL_UNSOUND = 1,
+    BOARD_REFUSAL_CUT = 2,
+    BOARD_REFUSAL_BEYOND = 3,
+    BOARD_REFUSAL_UNKNOWN = 4,
+    BOARD_REFUSAL_MISSHAPEN = 5,
+    BOARD_REFUSAL_STRANGER = 6,
+    BOARD_REFUSAL_DENIED = 7,
+    BOARD_REFUSAL_FULL = 8,
+    BOARD_REFUSAL_LONG_SCRIPT = 9,
+    BOARD_REFUSAL_NO_ROOM = 10,
+    BOARD_REFUSAL_UNFIT = 11,
+    BOARD_REFUSAL_SECOND_PROPOSAL = 12,
+    BOARD_REFUSAL_UNBORNE = 13,
+    BOARD_REFUSAL_UNREACHED = 14,
+    BOARD_REFUSAL_UNSCRIPTED = 15
 };
 
-/* a length is below this; a refusal is this and its number */
-#define BOARD_REFUSED_LENGTH ((uint64_t)1 << 32)
+/* The words of a refusal, for every number. */
+static inline const char *board_refusal_text(uint64_t refusal) {
+    switch (refusal) {
+    case 0: return "not refused";
+    case 1: return "the set-up is not sound, or the board or the seat's state that was handed in is not well formed";
+    case 2: return "the bytes end inside a number or a record";
+    case 3: return "a number is too long or not shortest, or a value is beyond its kind; of a start, the round is above 7 or the offset may not be proposed";
+    case 4: return "the call, or the kind or state of a field, is unknown";
+    case 5: return "a tuple has no field or more than six, an entry has a field that is not given, or an unused part is not zero";
+    case 6: return "the seat is 0 or above n";
+    case 7: return "the policy does not permit the call, for another cause than 12 and 13";
+    case 8: return "the board holds 128 tuples";
+    case 9: return "the script has more than 65,536 bytes";
+    case 10: return "the buffer is too short";
+    case 11: return "the answer does not fit the seat's state";
+    case 12: return "the seat has a proposal in that round already, or a mark stands in its place";
+    case 13: return "the set of the cas does not bear its offset";
+    case 14: return "no calls make this board";
+    case 15: return "a board of policy 5 is not written back as a script";
+    default: return "no refusal has this number";
+    }
+}
 
-/* ---- structs */
+/* A length is below this; a refusal is this and its number. */
+#define BOARD_REFUSED_LENGTH UINT64_C(4294967296)
+
+/* ---- the value of an offset's field */
+
+/* that of the mark */
+#define BOARD_MARK UINT64_C(0)
+
+/* Whether a code is the mark: 1 or 0. */
+static inline int board_is_mark(uint64_t code) {
+    return code == BOARD_MARK;
+}
+
+/* The code of an offset in hundredths: 1 + 2z for z from zero up, -2z for z below zero. It is never the mark, and each z has its own; beyond
+ * BOARD_LARGEST_OFFSET too, where the board refuses it 3. */
+static inline uint64_t board_code(int32_t hundredths) {
+    const int64_t z = hundredths;
+    return BOARD_CAST(uint64_t, z < 0 ? -2 * z : 1 + 2 * z);
+}
+
+/* The offset of a code, in hundredths: of board_code(z) it is z. Of the mark it is 0, as of the offset 0: board_is_mark tells them apart. Of a code that no z
+ * has it is INT32_MAX, or INT32_MIN if the code is even, which are no offsets of a board. */
+static inline int32_t board_hundredths(uint64_t code) {
+    const uint64_t size = code / 2;
+    if (code % 2 == 1) {
+        return size > INT32_MAX ? INT32_MAX : BOARD_CAST(int32_t, size);
+    }
+    return size > INT32_MAX ? INT32_MIN : -BOARD_CAST(int32_t, size);
+}
+
+/* ---- structs
+ *
+ * The bytes between fields have no meaning, in what is passed and in what comes back: two equal boards may differ under `memcmp`. Compare field by field. */
 
 typedef struct {
     uint8_t kind;
@@ -94,11 +183,11 @@ typedef struct {
 typedef struct {
     uint32_t process; /* the seat that calls */
     uint8_t code;
-    board_tuple template; /* zero where the call has none */
+    board_tuple template_; /* zero where the call has none; C++ keeps the plain word for itself */
     board_tuple entry;
 } board_call;
 
-/* the set-up: n seats, t that may stray, the policy 0 to 5, and k, which is 0 but under policy 3 */
+/* the set-up: n seats, t that may stray, the policy, and k, which is 0 but under policy 3 */
 typedef struct {
     uint64_t n;
     uint64_t t;
@@ -156,8 +245,8 @@ typedef struct {
 
 /* ---- what must agree with the library */
 
-#define BOARD_SIZE(type, bytes) _Static_assert(sizeof(type) == (bytes), #type)
-#define BOARD_AT(type, field, bytes) _Static_assert(offsetof(type, field) == (bytes), #type "." #field)
+#define BOARD_SIZE(type, bytes) BOARD_ASSERT(sizeof(type) == (bytes), #type)
+#define BOARD_AT(type, field, bytes) BOARD_ASSERT(offsetof(type, field) == (bytes), #type "." #field)
 
 BOARD_SIZE(board_field, 16);
 BOARD_AT(board_field, kind, 0);
@@ -169,7 +258,7 @@ BOARD_AT(board_tuple, fields, 8);
 BOARD_SIZE(board_call, 216);
 BOARD_AT(board_call, process, 0);
 BOARD_AT(board_call, code, 4);
-BOARD_AT(board_call, template, 8);
+BOARD_AT(board_call, template_, 8);
 BOARD_AT(board_call, entry, 112);
 BOARD_SIZE(board_config, 32);
 BOARD_AT(board_config, n, 0);
@@ -209,35 +298,44 @@ BOARD_AT(board_step, hundredths, 4);
 BOARD_AT(board_step, process, 8);
 BOARD_AT(board_step, call, 184);
 
+#undef BOARD_SIZE
+#undef BOARD_AT
+#undef BOARD_ASSERT
+#undef BOARD_CAST
+
 /* ---- functions */
 
 /* Runs a script and puts its text at the start of the buffer: the text's length. Refused: 10, and then the buffer is as before; what is wrong with the
- * script stands in its text. Stack: 56 KB. */
+ * script stands in its text. */
 uint64_t board_script(const uint8_t *bytes, size_t length, uint8_t *buffer, size_t room);
 
-/* A fresh board. Refused: 1 for a set-up that is not sound. Stack: 56 KB. */
+/* A fresh board. Refused: 1 for a set-up that is not sound. */
 board_opened board_fresh(board_config config);
 
 /* A call on a board: the reply, and the board afterwards. Refused, and the board as before: 1 for a board that is not well formed, then 3 to 5 for what is
- * wrong with the call, then 6, then 7, 12 or 13 by the policy, then 8. Stack: 68 KB. */
+ * wrong with the call, then 6, then 7, 12 or 13 by the policy, then 8. */
 board_applied board_apply(board_space space, board_call call);
 
 /* Starts a seat in a round with its proposal, the mark if `bottom` is not 0 (which is refused): its first call. Refused: 1 for a set-up that is not
- * sound, or of another policy than 2 and 3; then 6; then 3. Stack: 4 KB. */
+ * sound, or of another policy than 2 and 3; then 6; then 3. */
 board_step board_start(board_config config, uint32_t process, uint64_t round, uint8_t bottom, int32_t hundredths);
 
 /* Hands a seat the board's reply to its call: its next call, or its decision. Refused, and the state as before: 1 for a state that is not well formed,
- * then 11 for a reply that does not fit. Once decided it repeats its decision to every reply. Stack: 4 KB. */
+ * then 11 for a reply that does not fit. Once decided it repeats its decision to every reply. */
 board_step board_resume(board_process process, board_reply reply);
 
-/* The call whose record stands at a place of the bytes, and the place behind it. Refused: 2 to 5, the first from the left. Stack: 4 KB. */
+/* The call whose record stands at a place of the bytes, and the place behind it. Refused: 2 to 5, the first from the left. */
 board_read_call board_read(const uint8_t *bytes, size_t length, size_t at);
 
-/* Puts the record of a call at the start of the buffer: the record's length. Refused, and the buffer as before: 3 to 5, then 10. Stack: 4 KB. */
+/* Puts the record of a call at the start of the buffer: the record's length. Refused, and the buffer as before: 3 to 5, then 10. */
 uint64_t board_write(board_call call, uint8_t *buffer, size_t room);
 
 /* Puts a script whose run ends in the board at the start of the buffer: the script's length. Refused, and the buffer as before: 1, then 15, then 14,
- * then 10. Stack: 96 KB. */
+ * then 10. */
 uint64_t board_dump(board_space space, uint8_t *buffer, size_t room);
+
+#ifdef __cplusplus
+}
+#endif
 
 #endif

@@ -47,7 +47,7 @@ pub record ListingRule (config : Config) (calls : List Call) : Type 0 where
       → i ≡ j
   -- none has bottom for its shift
   pub some : (tuple : Tuple) → List·Memᴰ tuple (held (last config calls)) → isListTuple tuple ≡ true → shiftCode tuple ≡ 0 → ⊥
-  -- each was inserted by a cas of its own process, or under policy 5 of another one, and then it is what its process had announced
+  -- each was inserted by a cas of its own process, or under policy 5 of another one, and then it is the oldest announcement of its process that stood
   pub listed-by : (tuple : Tuple) → List·Memᴰ tuple (held (last config calls)) → isListTuple tuple ≡ true → ListedBy config calls tuple
 
 abbrev pub ListingRules : Type 0

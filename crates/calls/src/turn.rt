@@ -41,8 +41,8 @@ pub fn apply(space: Space, call: Call) -> Applied
     Applied { reply, space: next }
 }
 
-// What a call on a space is answered, and what becomes of the tuples. Of the space the configuration and the count are tested, and not its
-// places: this is for spaces that are well formed by construction.
+// What a call on a space is answered, and what becomes of the tuples. Of the space the configuration and the count are tested, and not its places: this
+// is for callers who know that each tuple held is an entry. Nothing behind the count is looked at.
 pub fn judge_unchecked(space: Space, call: Call) -> Effect
     ensures { λ r. ⌜ r ≡ judged space call ⌝ }
 {
@@ -60,7 +60,7 @@ pub fn judge_unchecked(space: Space, call: Call) -> Effect
     }
 }
 
-// The first refusal that a call meets, of 3 to 7.
+// The first refusal that a call meets, of 3 to 7, 12 and 13.
 fn first_refusal(space: Space, call: Call) -> Verdict
     ensures { λ r. ⌜ r ≡ firstRefusal space call ⌝ }
 {

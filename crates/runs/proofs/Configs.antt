@@ -1,5 +1,5 @@
 -- What the theorem's hypotheses on a configuration give: it is sound, what its policy permits, and what the spaces of its runs hold. Only this file,
--- `BottomCast` and `Choosing` know the policies' numbers.
+-- `BottomCast`, `Choosing`, `Strays` and `StrayDecisions` know the policies' numbers.
 use mathlib.Core.Path.{_≡_}
 use mathlib.Core.Logic.{_↔_, inl, inr, ⊎-elim}
 use mathlib.Core.Bool.{true}

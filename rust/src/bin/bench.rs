@@ -3,8 +3,7 @@
 //!
 //!     bench [the proved program board] [the Rust program board]
 //!
-//! With the two programs it times them too, from standard input to standard output. Last it prints the stack that the proved program
-//! and each function of the library need: the least, in steps of 4 KB, with which it ends.
+//! With the two programs it times them too, from standard input to standard output.
 
 use std::fs::File;
 use std::hint::black_box;
@@ -205,76 +204,8 @@ fn run_program(program: &str, input: &str) {
     assert!(status.success());
 }
 
-/// The least number of KB, in steps of 4, with which a trial ends well.
-fn least(trial: impl Fn(usize) -> bool) -> usize {
-    let (mut too_few, mut enough) = (0, 4096);
-    assert!(trial(4 * enough), "more than 16 MB");
-    while enough - too_few > 1 {
-        let middle = (too_few + enough) / 2;
-        *(if trial(4 * middle) { &mut enough } else { &mut too_few }) = middle;
-    }
-    4 * enough
-}
-
-/// The functions of the library whose stack is measured; none gives what a thread of Rust needs itself.
-const FUNCTIONS: [&str; 9] = ["none", "read", "write", "start", "resume", "fresh", "apply", "script", "dump"];
-
-/// Calls one function of the library on a thread with so many KB of stack; too few end the program.
-fn on_a_thread(function: String, kilobytes: usize) {
-    let mut board = Board::fresh(FULL).expect("a sound set-up");
-    for k in 0..MOST_SEATS {
-        board.tuples[k as usize] = Tuple::proposal(0, 1 + k, 1 + k % 4);
-        board.count += 1;
-    }
-    let space = Box::new(flat::space(&board));
-    let cas = Call::cas(1, Tuple::decision_template(0), Tuple::decision(0, 0, 0x7FF));
-    let (call, long) = (flat::call(&cas), long_script());
-    let mut text = vec![0; 2_000_000];
-    // Each in a closure of its own, so that none pays for another's values: what is passed and what comes back stands on the stack too.
-    let work: Box<dyn FnOnce() + Send> = match function.as_str() {
-        "read" => Box::new(move || assert_eq!(sys::read(&long, 3).refusal, 0)),
-        "write" => Box::new(move || assert!(sys::write(call, &mut text).is_ok())),
-        "fresh" => Box::new(move || assert_eq!(sys::fresh(space.config).refusal, 0)),
-        "start" => Box::new(move || assert_eq!(sys::start(space.config, 1, 0, 0, 5).refusal, 0)),
-        "resume" => Box::new(move || {
-            let process = sys::start(space.config, 1, 0, 0, 5).process;
-            assert_eq!(sys::resume(process, sys::Reply::default()).refusal, 0);
-        }),
-        "apply" => Box::new(move || assert_eq!(sys::apply(*space, call).reply.refusal, 0)),
-        "script" => Box::new(move || assert!(sys::script(&long, &mut text).is_ok())),
-        "dump" => Box::new(move || assert!(sys::dump(*space, &mut text).is_ok())),
-        _ => Box::new(|| {}),
-    };
-    let thread = std::thread::Builder::new().stack_size(kilobytes * 1024).spawn(work).expect("a thread");
-    thread.join().expect("the function answers");
-}
-
-/// Whether a command ends well, with nothing of it shown.
-fn ends_well(command: &mut Command) -> bool {
-    command.stdout(Stdio::null()).stderr(Stdio::null()).status().is_ok_and(|status| status.success())
-}
-
-fn stacks(program: &str, script: &str) {
-    let own = std::env::current_exe().expect("this program");
-    let limited = |kb: usize| {
-        let words = format!("ulimit -s {kb} && exec '{program}' < '{script}'");
-        ends_well(Command::new("sh").args(["-c", &words]))
-    };
-    println!("stack: the program board {} KB", least(limited));
-    let needs =
-        |function: &str| least(|kb| ends_well(Command::new(&own).args(["stack", function, &kb.to_string()])));
-    let thread = needs("none");
-    for function in &FUNCTIONS[1..] {
-        println!("stack: {function} {} KB", needs(function).saturating_sub(thread));
-    }
-}
-
 fn main() {
     let arguments: Vec<String> = std::env::args().skip(1).collect();
-    if let [word, function, kilobytes] = arguments.as_slice() {
-        assert_eq!(word, "stack");
-        return on_a_thread(function.clone(), kilobytes.parse().expect("a number"));
-    }
     println!("{:<80} {:>11} {:>11} {:>7}", "median time in µs", "proved", "plain Rust", "ratio");
     let bytes = records();
     line("a  reading 1,000 records", medians(301, || read_ours(&bytes), || read_plain(&bytes)));
@@ -329,7 +260,6 @@ fn main() {
         let name = path.to_str().expect("a plain path");
         let times = medians(21, || run_program(ours, name), || run_program(plain, name));
         line("e  the script of c through the programs, from standard input to standard output", times);
-        stacks(ours, name);
         std::fs::remove_file(&path).expect("the temporary file");
     }
 }

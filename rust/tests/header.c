@@ -1,0 +1,15 @@
+/* The C header, included twice, and its inline functions at their edges: C11 and C++17. */
+#include "board.h"
+#include "board.h"
+
+static int is_coded(int32_t hundredths, uint64_t code) {
+    return board_code(hundredths) == code && board_hundredths(code) == hundredths && !board_is_mark(code);
+}
+
+int main(void) {
+    const board_config config = {4, 1, BOARD_POLICY_DEFAULT, 0};
+    return !(board_fresh(config).refusal == BOARD_REFUSAL_NONE && is_coded(0, 1) && is_coded(-1, 2) && is_coded(1, 3) && is_coded(-40, 80) &&
+             is_coded(BOARD_LARGEST_OFFSET, 200001) && is_coded(INT32_MAX, UINT32_MAX) && is_coded(INT32_MIN, UINT64_C(4294967296)) &&
+             board_is_mark(BOARD_MARK) && board_hundredths(BOARD_MARK) == 0 && board_hundredths(UINT64_C(4294967297)) == INT32_MAX &&
+             board_hundredths(UINT64_MAX) == INT32_MAX && board_hundredths(UINT64_MAX - 1) == INT32_MIN && board_refusal_text(UINT64_MAX)[0] == 'n');
+}

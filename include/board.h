@@ -123,11 +123,11 @@ static inline const char *board_refusal_text(uint64_t refusal) {
     case 5: return "a tuple has no field or more than six, an entry has a field that is not given, or an unused part is not zero";
     case 6: return "the seat is 0 or above n";
     case 7: return "the policy does not permit the call, for another cause than 12 and 13";
-    case 8: return "the board holds 128 tuples";
+    case 8: return "an out, or a cas that nothing matches, on 128 tuples";
     case 9: return "the script has more than 65,536 bytes";
     case 10: return "the buffer is too short";
     case 11: return "the answer does not fit the seat's state";
-    case 12: return "the seat has a proposal in that round already, or a mark stands in its place";
+    case 12: return "a tuple of word 1, that round and that seat stands already, whatever its offset";
     case 13: return "the set of the cas does not bear its offset";
     case 14: return "no calls make this board";
     case 15: return "a board of policy 5 is not written back as a script";

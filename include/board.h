@@ -167,11 +167,11 @@ static inline int32_t board_hundredths(uint64_t code) {
 
 /* ---- structs
  *
- * The bytes between fields have no meaning, in what is passed and in what comes back: two equal boards may differ under `memcmp`. Compare field by field. */
+ * No struct has a byte of padding: two boards are equal exactly if their bytes are. */
 
 typedef struct {
-    uint8_t kind;
-    uint8_t state;
+    uint32_t kind;
+    uint32_t state;
     uint64_t value; /* 0 if the field is not given */
 } board_field;
 
@@ -182,7 +182,7 @@ typedef struct {
 
 typedef struct {
     uint32_t process; /* the seat that calls */
-    uint8_t code;
+    uint32_t code;
     board_tuple template_; /* zero where the call has none; C++ keeps the plain word for itself */
     board_tuple entry;
 } board_call;
@@ -203,13 +203,13 @@ typedef struct {
 } board_space;
 
 typedef struct {
-    uint8_t outcome;
-    uint8_t refusal;
+    uint32_t outcome;
+    uint32_t refusal;
     board_tuple tuple; /* found or held, else zero */
 } board_reply;
 
 typedef struct {
-    uint8_t refusal;
+    uint64_t refusal;
     board_space space; /* zero beside a refusal */
 } board_opened;
 
@@ -219,7 +219,7 @@ typedef struct {
 } board_applied;
 
 typedef struct {
-    uint8_t refusal;
+    uint64_t refusal;
     size_t next;     /* the place behind the record; 0 beside a refusal */
     board_call call; /* zero beside a refusal */
 } board_read_call;
@@ -228,16 +228,16 @@ typedef struct {
 typedef struct {
     board_config config;
     uint32_t process;
-    uint8_t phase;
+    uint32_t phase;
     uint64_t round;
     uint64_t value; /* the seat asked, while reading; the decision's code, once decided; else 0 */
     uint64_t found[BOARD_SEATS];
 } board_process;
 
 typedef struct {
-    uint8_t next;
-    uint8_t refusal;
-    uint8_t bottom;     /* 1 if the decision is the mark */
+    uint32_t next;
+    uint32_t refusal;
+    uint32_t bottom;    /* 1 if the decision is the mark */
     int32_t hundredths; /* the decision, 0 if it is the mark or there is none */
     board_process process;
     board_call call; /* what it calls next, else zero */
@@ -250,7 +250,7 @@ typedef struct {
 
 BOARD_SIZE(board_field, 16);
 BOARD_AT(board_field, kind, 0);
-BOARD_AT(board_field, state, 1);
+BOARD_AT(board_field, state, 4);
 BOARD_AT(board_field, value, 8);
 BOARD_SIZE(board_tuple, 104);
 BOARD_AT(board_tuple, count, 0);
@@ -271,7 +271,7 @@ BOARD_AT(board_space, count, 32);
 BOARD_AT(board_space, tuples, 40);
 BOARD_SIZE(board_reply, 112);
 BOARD_AT(board_reply, outcome, 0);
-BOARD_AT(board_reply, refusal, 1);
+BOARD_AT(board_reply, refusal, 4);
 BOARD_AT(board_reply, tuple, 8);
 BOARD_SIZE(board_opened, 13360);
 BOARD_AT(board_opened, refusal, 0);
@@ -290,16 +290,32 @@ BOARD_AT(board_process, phase, 36);
 BOARD_AT(board_process, round, 40);
 BOARD_AT(board_process, value, 48);
 BOARD_AT(board_process, found, 56);
-BOARD_SIZE(board_step, 400);
+BOARD_SIZE(board_step, 408);
 BOARD_AT(board_step, next, 0);
-BOARD_AT(board_step, refusal, 1);
-BOARD_AT(board_step, bottom, 2);
-BOARD_AT(board_step, hundredths, 4);
-BOARD_AT(board_step, process, 8);
-BOARD_AT(board_step, call, 184);
+BOARD_AT(board_step, refusal, 4);
+BOARD_AT(board_step, bottom, 8);
+BOARD_AT(board_step, hundredths, 12);
+BOARD_AT(board_step, process, 16);
+BOARD_AT(board_step, call, 192);
+
+/* no struct has a byte of padding: the size is the sum of the members' */
+#define BOARD_SUM(type, bytes) BOARD_ASSERT(sizeof(type) == (bytes), #type)
+
+BOARD_SUM(board_field, 2 * sizeof(uint32_t) + sizeof(uint64_t));
+BOARD_SUM(board_tuple, sizeof(size_t) + BOARD_FIELDS * sizeof(board_field));
+BOARD_SUM(board_call, 2 * sizeof(uint32_t) + 2 * sizeof(board_tuple));
+BOARD_SUM(board_config, 4 * sizeof(uint64_t));
+BOARD_SUM(board_space, sizeof(board_config) + sizeof(size_t) + BOARD_TUPLES * sizeof(board_tuple));
+BOARD_SUM(board_reply, 2 * sizeof(uint32_t) + sizeof(board_tuple));
+BOARD_SUM(board_opened, sizeof(uint64_t) + sizeof(board_space));
+BOARD_SUM(board_applied, sizeof(board_reply) + sizeof(board_space));
+BOARD_SUM(board_read_call, sizeof(uint64_t) + sizeof(size_t) + sizeof(board_call));
+BOARD_SUM(board_process, sizeof(board_config) + 2 * sizeof(uint32_t) + (2 + BOARD_SEATS) * sizeof(uint64_t));
+BOARD_SUM(board_step, 3 * sizeof(uint32_t) + sizeof(int32_t) + sizeof(board_process) + sizeof(board_call));
 
 #undef BOARD_SIZE
 #undef BOARD_AT
+#undef BOARD_SUM
 #undef BOARD_ASSERT
 #undef BOARD_CAST
 
@@ -318,7 +334,7 @@ board_applied board_apply(board_space space, board_call call);
 
 /* Starts a seat in a round with its proposal, the mark if `bottom` is not 0 (which is refused): its first call. Refused: 1 for a set-up that is not
  * sound, or of another policy than 2 and 3; then 6; then 3. */
-board_step board_start(board_config config, uint32_t process, uint64_t round, uint8_t bottom, int32_t hundredths);
+board_step board_start(board_config config, uint32_t process, uint64_t round, uint32_t bottom, int32_t hundredths);
 
 /* Hands a seat the board's reply to its call: its next call, or its decision. Refused, and the state as before: 1 for a state that is not well formed,
  * then 11 for a reply that does not fit. Once decided it repeats its decision to every reply. */

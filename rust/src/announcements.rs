@@ -170,7 +170,7 @@ mod tests {
         entries.push(Tuple::of(&[&good.fields[..4], &[Field::given(Kind::Word, 0)]].concat()));
         for (place, kind) in [Kind::Count, Kind::Word, Kind::Offset, Kind::Count].into_iter().enumerate() {
             let mut entry = good;
-            entry.fields[place].kind = kind as u8;
+            entry.fields[place].kind = kind as u32;
             entries.push(entry);
         }
         for word in [0, 1, 2, 3, 5, 255] {

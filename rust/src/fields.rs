@@ -24,7 +24,7 @@ pub const ANNOUNCED: u64 = 4;
 
 /// What a field is about.
 #[derive(Clone, Copy, Debug, PartialEq, Eq, Hash)]
-#[repr(u8)]
+#[repr(u32)]
 pub enum Kind {
     Word = 1,
     Count = 2,
@@ -37,8 +37,8 @@ impl Kind {
     pub const ALL: [Kind; 4] = [Kind::Word, Kind::Count, Kind::Offset, Kind::Seats];
 
     /// The kind with this number.
-    pub fn from_number(number: u8) -> Option<Kind> {
-        Kind::ALL.into_iter().find(|kind| *kind as u8 == number)
+    pub fn from_number(number: u32) -> Option<Kind> {
+        Kind::ALL.into_iter().find(|kind| *kind as u32 == number)
     }
 
     /// The largest value (for an offset, travelling number) of this kind.
@@ -64,7 +64,7 @@ impl Kind {
 
 /// Whether a field's value is given, or in which way it is not.
 #[derive(Clone, Copy, Debug, PartialEq, Eq, Hash)]
-#[repr(u8)]
+#[repr(u32)]
 pub enum State {
     Given = 0,
     /// The source's "*".
@@ -78,8 +78,8 @@ impl State {
     pub const ALL: [State; 3] = [State::Given, State::Any, State::Open];
 
     /// The state with this number.
-    pub fn from_number(number: u8) -> Option<State> {
-        State::ALL.into_iter().find(|state| *state as u8 == number)
+    pub fn from_number(number: u32) -> Option<State> {
+        State::ALL.into_iter().find(|state| *state as u32 == number)
     }
 }
 
@@ -95,8 +95,8 @@ pub enum Role {
 /// A field as a plain value. An offset's value is its travelling number.
 #[derive(Clone, Copy, Debug, Default, PartialEq, Eq, Hash)]
 pub struct Field {
-    pub kind: u8,
-    pub state: u8,
+    pub kind: u32,
+    pub state: u32,
     pub value: u64,
 }
 
@@ -106,17 +106,17 @@ impl Field {
 
     /// A given field.
     pub const fn given(kind: Kind, value: u64) -> Field {
-        Field { kind: kind as u8, state: State::Given as u8, value }
+        Field { kind: kind as u32, state: State::Given as u32, value }
     }
 
     /// An undefined field, "*".
     pub const fn any(kind: Kind) -> Field {
-        Field { kind: kind as u8, state: State::Any as u8, value: 0 }
+        Field { kind: kind as u32, state: State::Any as u32, value: 0 }
     }
 
     /// An undefined field, "?v".
     pub const fn open(kind: Kind) -> Field {
-        Field { kind: kind as u8, state: State::Open as u8, value: 0 }
+        Field { kind: kind as u32, state: State::Open as u32, value: 0 }
     }
 
     /// The field's kind and state, if there are such.
@@ -256,7 +256,7 @@ impl Tuple {
     /// fields, are zero.
     pub fn unused_is_zero(&self) -> bool {
         let behind = &self.fields[self.used().len()..];
-        let undefined = |field: &&Field| field.state != State::Given as u8;
+        let undefined = |field: &&Field| field.state != State::Given as u32;
         behind.iter().all(|field| *field == Field::BLANK)
             && self.used().iter().filter(undefined).all(|field| field.value == 0)
     }
@@ -272,7 +272,7 @@ impl Tuple {
     pub fn matches(&self, entry: &Tuple) -> bool {
         self.count == entry.count
             && self.used().iter().zip(entry.used()).all(|(asked, held)| {
-                asked.kind == held.kind && (asked.state != State::Given as u8 || asked.value == held.value)
+                asked.kind == held.kind && (asked.state != State::Given as u32 || asked.value == held.value)
             })
     }
 

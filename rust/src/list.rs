@@ -148,7 +148,7 @@ mod tests {
             }
             let mut call = good;
             let kind = if place == 0 { Kind::Count } else { Kind::Word };
-            call.template.fields[place].kind = kind as u8;
+            call.template.fields[place].kind = kind as u32;
             assert_eq!(answer(call), DENIED, "{call:?}");
         }
         for position in [0, 1, 3] {
@@ -170,7 +170,7 @@ mod tests {
             [Kind::Count, Kind::Word, Kind::Word, Kind::Seats, Kind::Count].iter().enumerate()
         {
             let mut entry = good.entry;
-            entry.fields[place].kind = *kind as u8;
+            entry.fields[place].kind = *kind as u32;
             entries.push(entry);
         }
         for word in [0, 1, 2, 4, 255] {

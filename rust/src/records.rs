@@ -9,7 +9,7 @@ pub const LONGEST_RECORD: usize = 80;
 
 /// Which call it is.
 #[derive(Clone, Copy, Debug, PartialEq, Eq, Hash)]
-#[repr(u8)]
+#[repr(u32)]
 pub enum Code {
     Out = 1,
     Rdp = 2,
@@ -51,7 +51,7 @@ impl Code {
 #[derive(Clone, Copy, Debug, Default, PartialEq, Eq, Hash)]
 pub struct Call {
     pub process: u32,
-    pub code: u8,
+    pub code: u32,
     pub template: Tuple,
     pub entry: Tuple,
 }
@@ -59,28 +59,28 @@ pub struct Call {
 impl Call {
     /// out(entry).
     pub fn out(process: u32, entry: Tuple) -> Call {
-        Call { process, code: Code::Out as u8, template: Tuple::BLANK, entry }
+        Call { process, code: Code::Out as u32, template: Tuple::BLANK, entry }
     }
 
     /// rdp(template).
     pub fn rdp(process: u32, template: Tuple) -> Call {
-        Call { process, code: Code::Rdp as u8, template, entry: Tuple::BLANK }
+        Call { process, code: Code::Rdp as u32, template, entry: Tuple::BLANK }
     }
 
     /// inp(template).
     pub fn inp(process: u32, template: Tuple) -> Call {
-        Call { process, code: Code::Inp as u8, template, entry: Tuple::BLANK }
+        Call { process, code: Code::Inp as u32, template, entry: Tuple::BLANK }
     }
 
     /// cas(template, entry).
     pub fn cas(process: u32, template: Tuple, entry: Tuple) -> Call {
-        Call { process, code: Code::Cas as u8, template, entry }
+        Call { process, code: Code::Cas as u32, template, entry }
     }
 
     /// The first fault of a call handed in, refused 3 to 5 in record order with
     /// unused parts last; or which call it is.
     pub fn check(&self) -> Result<Code, Refusal> {
-        let code = Code::from_number(self.code.into()).ok_or(Refusal::Unknown)?;
+        let code = Code::from_number(self.code).ok_or(Refusal::Unknown)?;
         if code.has_template() {
             self.template.check(Role::Template)?;
         }
@@ -132,7 +132,7 @@ impl<'a> Reader<'a> {
     /// The next field.
     fn field(&mut self, role: Role) -> Result<Field, Refusal> {
         let (kind, state) = head(self.number()?).ok_or(Refusal::Unknown)?;
-        let mut field = Field { kind: kind as u8, state: state as u8, value: 0 };
+        let mut field = Field { kind: kind as u32, state: state as u32, value: 0 };
         field.check(role)?;
         if state == State::Given {
             field.value = self.number()?.into();
@@ -161,7 +161,7 @@ impl<'a> Reader<'a> {
     pub fn record(&mut self) -> Result<Call, Refusal> {
         let process = self.number()?;
         let code = Code::from_number(self.number()?).ok_or(Refusal::Unknown)?;
-        let mut call = Call { process, code: code as u8, ..Call::default() };
+        let mut call = Call { process, code: code as u32, ..Call::default() };
         if code.has_template() {
             call.template = self.tuple(Role::Template)?;
         }
@@ -174,8 +174,8 @@ impl<'a> Reader<'a> {
 
 /// Kind and state of a head.
 fn head(number: u32) -> Option<(Kind, State)> {
-    let kind = Kind::from_number(u8::try_from(number / 4).ok()?)?;
-    let state = State::from_number((number % 4) as u8)?;
+    let kind = Kind::from_number(number / 4)?;
+    let state = State::from_number(number % 4)?;
     Some((kind, state))
 }
 
@@ -221,8 +221,8 @@ pub(crate) fn push_record(call: &Call, record: &mut Vec<u8>) -> Result<(), Refus
 fn push_tuple(tuple: &Tuple, record: &mut Vec<u8>) {
     write_number(tuple.count as u32, record);
     for field in tuple.used() {
-        write_number(4 * u32::from(field.kind) + u32::from(field.state), record);
-        if field.state == State::Given as u8 {
+        write_number(4 * field.kind + field.state, record);
+        if field.state == State::Given as u32 {
             // A checked value is at most 4,294,967,295.
             write_number(field.value as u32, record);
         }
@@ -345,7 +345,7 @@ mod tests {
         let mut call = Call::rdp(1, Tuple::decision_template(0));
         call.entry.count = 9;
         assert_eq!(call.check(), Err(Shape), "the entry of an rdp");
-        call.code = Code::Inp as u8;
+        call.code = Code::Inp as u32;
         assert_eq!(call.check(), Err(Shape), "the entry of an inp");
         let mut call = Call::out(1, Tuple::proposal(0, 1, 3));
         call.entry.fields[4].state = 1;

@@ -5,7 +5,7 @@ use std::fmt;
 
 /// Why something was refused. The discriminants are the papers' numbers.
 #[derive(Clone, Copy, Debug, PartialEq, Eq, Hash, PartialOrd, Ord)]
-#[repr(u8)]
+#[repr(u32)]
 pub enum Refusal {
     /// Unsound set-up, wrong policy for a seat, or an ill-formed board or seat state.
     Unsound = 1,
@@ -41,8 +41,8 @@ pub enum Refusal {
 
 impl Refusal {
     /// The papers' number.
-    pub const fn number(self) -> u8 {
-        self as u8
+    pub const fn number(self) -> u32 {
+        self as u32
     }
 }
 

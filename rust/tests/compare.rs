@@ -205,7 +205,7 @@ fn calls_with_wrong_fields() {
         inputs,
         format!("answered, refused 1 to 13: {answers:?}"),
     );
-    assert!(answers[12] > 10 && answers[13] > 50, "{answers:?}");
+    assert!(answers[12] > 5 && answers[13] > 50, "{answers:?}");
 }
 
 /// A tuple near the policies' shapes, as no run need make it.
@@ -274,7 +274,7 @@ fn aimed_call(dice: &mut Dice, board: &Board) -> Call {
     let mut template = odd_tuple(dice, &board.config);
     for field in &mut template.fields[..template.count] {
         if dice.one_in(2) {
-            *field = Field { state: 1 + dice.below(2) as u8, value: 0, ..*field };
+            *field = Field { state: 1 + dice.below(2) as u32, value: 0, ..*field };
         }
     }
     match dice.below(8) {
@@ -709,7 +709,8 @@ fn offsets_to_start_with() -> Vec<Offset> {
 }
 
 /// Flags of the mark, and hundredths beside it that would start a seat.
-const FLAGGED: [(u8, i32); 6] = [(1, 1), (2, 0), (2, -40), (128, 1), (255, 0), (255, 100_000)];
+const FLAGGED: [(u32, i32); 9] =
+    [(1, 1), (2, 0), (2, -40), (128, 1), (255, 0), (255, 100_000), (256, 0), (65_536, -40), (u32::MAX, 1)];
 
 #[test]
 fn seats_started() {
@@ -950,7 +951,7 @@ fn numbers_that_are_no_case() {
         let (mut process, mut reply) = (flat::process(&seat), flat::reply(&answer));
         if dice.one_in(2) {
             match dice.below(3) {
-                0 => process.phase = dice.pick(&[4, 5, 127, 128, 255]),
+                0 => process.phase = dice.pick(&[4, 5, 127, 128, 255, 256, 257, 65_538, u32::MAX]),
                 1 => {
                     process.phase = dice.pick(&[0, 2]);
                     process.value = dice.pick(&[1, 2, MOST_SEATS, u64::MAX]);
@@ -964,12 +965,16 @@ fn numbers_that_are_no_case() {
         } else {
             match dice.below(2) {
                 0 => {
-                    (reply.outcome, reply.refusal) =
-                        (dice.pick(&[5, 6, 7, 128, 255]), dice.pick(&[0, 1, 7, 11, 12, 13, 14, 15, 16, 255]))
+                    (reply.outcome, reply.refusal) = (
+                        dice.pick(&[5, 6, 7, 128, 255, 256, 258, u32::MAX]),
+                        dice.pick(&[0, 1, 7, 11, 12, 13, 14, 15, 16, 255, 256, u32::MAX]),
+                    )
                 }
                 _ => {
-                    (reply.outcome, reply.refusal) =
-                        (dice.below(6) as u8, dice.pick(&[1, 2, 7, 11, 12, 13, 14, 15, 16, 255]))
+                    (reply.outcome, reply.refusal) = (
+                        dice.below(6) as u32,
+                        dice.pick(&[1, 2, 7, 11, 12, 13, 14, 15, 16, 255, 256, u32::MAX]),
+                    )
                 }
             }
             let unknown = Answer { kind: AnswerKind::Refused(Refusal::Unfit), tuple: answer.tuple };

@@ -1,5 +1,5 @@
 //! The C header: the sizes and offsets that it asserts, held to those of the structs that cross in `sys.rs`; its numbers, held to the plain version's;
-//! and its words for the refusals, held to the fitter's table.
+//! and its words for the refusals, held to the fitter's table. That no struct has padding is asserted in both.
 
 use std::fs;
 use std::mem::{offset_of, size_of};
@@ -35,6 +35,20 @@ macro_rules! layout {
         $(lines.push(format!("BOARD_AT({}, {}, {});", $name, name_in_c(stringify!($field)), offset_of!($type, $field)));)+
         lines
     }};
+}
+
+/// Every struct of the header has its size asserted, and once more as the sum of its members'.
+#[test]
+fn no_struct_has_padding() {
+    let header = file("include/board.h");
+    let names = |front: &str| -> Vec<String> {
+        let lines = header.lines().filter_map(|line| line.strip_prefix(front));
+        lines.map(|line| line.split([',', ';']).next().unwrap_or_default().trim().to_owned()).collect()
+    };
+    let structs = names("} ");
+    assert_eq!(structs.len(), 11);
+    assert_eq!(names("BOARD_SIZE("), structs);
+    assert_eq!(names("BOARD_SUM("), structs);
 }
 
 #[test]

@@ -49,7 +49,7 @@ fn stray_call(dice: &mut Dice, process: u32, n: u64, round: u64, offsets: &[u64]
             1 => call.entry.fields[place] = field,
             2 => call.template.count = dice.below(9) as usize,
             3 => call.entry.count = dice.below(9) as usize,
-            4 => call.code = dice.below(6) as u8,
+            4 => call.code = dice.below(6) as u32,
             _ => call.entry.fields[place].value = dice.below(1 << 40),
         }
     }

@@ -64,7 +64,7 @@ pub extern "C" fn board_start(
     config: Config,
     process: u32,
     round: u64,
-    bottom: u8,
+    bottom: u32,
     hundredths: i32,
 ) -> FlatStep
     ensures { λ r. ⌜ r ≡ started· config process round bottom hundredths ⌝ }

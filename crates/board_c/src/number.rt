@@ -34,7 +34,7 @@ fn refused_number(refusal: Refusal) -> u64
     REFUSED + wide(refusal.number())
 }
 
-fn wide(number: u8) -> u64
+pub(crate) fn wide(number: u32) -> u64
     ensures { λ r. ⌜ r ≡ number ⌝ }
 {
     number as u64

@@ -2,6 +2,7 @@
 ghost use mathlib.Core.Path.{_≡_};
 ghost use Rattle.board_c.specs.Flat.{outcomeNumber, outcomeRefusal, flatReply, flatOpened, flatApplied, flatRead, nextRefusal, nextPlace, openingRefusal, plainOutcome, outcomeOf, replyOf};
 ghost use Rattle.tuple.specs.Refusals.{refusal as refusal·};
+use crate::number::wide;
 use calls::Applied;
 use record::Next;
 use record::ReadCall;
@@ -18,15 +19,15 @@ use tuple::Tuple;
 // and the tuple.
 #[repr(C)]
 pub struct FlatReply {
-    pub outcome: u8,
-    pub refusal: u8,
+    pub outcome: u32,
+    pub refusal: u32,
     pub tuple: Tuple,
 }
 
 // A fresh space, and 0; or the refusal's number beside a blank one.
 #[repr(C)]
 pub struct FlatOpened {
-    pub refusal: u8,
+    pub refusal: u64,
     pub space: Space,
 }
 
@@ -40,7 +41,7 @@ pub struct FlatApplied {
 // A call and the place behind it, and 0; or the refusal's number beside place 0 and a blank call.
 #[repr(C)]
 pub struct FlatRead {
-    pub refusal: u8,
+    pub refusal: u64,
     pub next: usize,
     pub call: Call,
 }
@@ -56,12 +57,12 @@ pub(crate) fn flat_opened(opened: Opened) -> FlatOpened
     }
 }
 
-fn opening_refusal(opening: Opening) -> u8
+fn opening_refusal(opening: Opening) -> u64
     ensures { λ r. ⌜ r ≡ openingRefusal opening ⌝ }
 {
     match opening {
         Opening::Stands => 0,
-        Opening::Unopened(refusal) => refusal.number(),
+        Opening::Unopened(refusal) => wide(refusal.number()),
     }
 }
 
@@ -88,7 +89,7 @@ fn flat_reply(reply: Reply) -> FlatReply
     }
 }
 
-fn outcome_number(outcome: Outcome) -> u8
+fn outcome_number(outcome: Outcome) -> u32
     ensures { λ r. ⌜ r ≡ outcomeNumber outcome ⌝ }
 {
     match outcome {
@@ -101,7 +102,7 @@ fn outcome_number(outcome: Outcome) -> u8
     }
 }
 
-fn outcome_refusal(outcome: Outcome) -> u8
+fn outcome_refusal(outcome: Outcome) -> u32
     ensures { λ r. ⌜ r ≡ outcomeRefusal outcome ⌝ }
 {
     match outcome {
@@ -126,12 +127,12 @@ pub(crate) fn flat_read(read: ReadCall) -> FlatRead
     }
 }
 
-fn next_refusal(next: Next) -> u8
+fn next_refusal(next: Next) -> u64
     ensures { λ r. ⌜ r ≡ nextRefusal next ⌝ }
 {
     match next {
         Next::At(_) => 0,
-        Next::Refused(refusal) => refusal.number(),
+        Next::Refused(refusal) => wide(refusal.number()),
     }
 }
 
@@ -157,7 +158,7 @@ pub(crate) fn reply_of(reply: FlatReply) -> Reply
 }
 
 // An outcome's number beside a refusal's. What has a refusal's number is a refusal.
-fn outcome_of(outcome: u8, refusal: u8) -> Outcome
+fn outcome_of(outcome: u32, refusal: u32) -> Outcome
     ensures { λ r. ⌜ r ≡ outcomeOf outcome refusal ⌝ }
 {
     if refusal == 0 {
@@ -168,7 +169,7 @@ fn outcome_of(outcome: u8, refusal: u8) -> Outcome
 }
 
 // What is no outcome's number is a refusal too, which fits nowhere.
-fn plain_outcome(outcome: u8) -> Outcome
+fn plain_outcome(outcome: u32) -> Outcome
     ensures { λ r. ⌜ r ≡ plainOutcome outcome ⌝ }
 {
     match outcome {
@@ -182,7 +183,7 @@ fn plain_outcome(outcome: u8) -> Outcome
 }
 
 // The refusal of a number; what is no number of one is taken for the last.
-fn refusal_of(number: u8) -> Refusal
+fn refusal_of(number: u32) -> Refusal
     ensures { λ r. ⌜ r ≡ refusal· number ⌝ }
 {
     match number {

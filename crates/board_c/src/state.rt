@@ -17,7 +17,7 @@ use tuple::Refusal;
 pub struct FlatProcess {
     pub config: Config,
     pub process: u32,
-    pub phase: u8,
+    pub phase: u32,
     pub round: u64,
     pub value: u64,
     pub found: [u64; PROCESSES],
@@ -27,9 +27,9 @@ pub struct FlatProcess {
 // then, and the call. What there is none of is 0.
 #[repr(C)]
 pub struct FlatStep {
-    pub next: u8,
-    pub refusal: u8,
-    pub bottom: u8,
+    pub next: u32,
+    pub refusal: u32,
+    pub bottom: u32,
     pub hundredths: i32,
     pub process: FlatProcess,
     pub call: Call,
@@ -51,7 +51,7 @@ pub(crate) fn flat_step(step: Step) -> FlatStep
     }
 }
 
-fn next_number(next: Next) -> u8
+fn next_number(next: Next) -> u32
     ensures { λ r. ⌜ r ≡ nextNumber next ⌝ }
 {
     match next {
@@ -61,7 +61,7 @@ fn next_number(next: Next) -> u8
     }
 }
 
-fn refusal_of(next: Next) -> u8
+fn refusal_of(next: Next) -> u32
     ensures { λ r. ⌜ r ≡ refusalOf next ⌝ }
 {
     match next {
@@ -71,7 +71,7 @@ fn refusal_of(next: Next) -> u8
     }
 }
 
-fn bottom_of(next: Next) -> u8
+fn bottom_of(next: Next) -> u32
     ensures { λ r. ⌜ r ≡ bottomOf next ⌝ }
 {
     match next {
@@ -91,7 +91,7 @@ fn hundredths_of(next: Next) -> i32
     }
 }
 
-fn bottom_flag(offset: Offset) -> u8
+fn bottom_flag(offset: Offset) -> u32
     ensures { λ r. ⌜ r ≡ bottomFlag offset ⌝ }
 {
     match offset {
@@ -125,7 +125,7 @@ fn flat_process(process: Process) -> FlatProcess
     }
 }
 
-fn phase_number(phase: Phase) -> u8
+fn phase_number(phase: Phase) -> u32
     ensures { λ r. ⌜ r ≡ phaseNumber phase ⌝ }
 {
     match phase {
@@ -150,7 +150,7 @@ fn phase_value(phase: Phase) -> u64
 // ---- a state or an offset that is handed in
 
 // Whether a number is a phase's, and the value beside it 0 where the phase has none.
-pub(crate) fn is_phase(phase: u8, value: u64) -> bool
+pub(crate) fn is_phase(phase: u32, value: u64) -> bool
     ensures { λ r. ⌜ r ≡ isPhase phase value ⌝ }
 {
     match phase {
@@ -162,7 +162,7 @@ pub(crate) fn is_phase(phase: u8, value: u64) -> bool
     }
 }
 
-fn phase_of(phase: u8, value: u64) -> Phase
+fn phase_of(phase: u32, value: u64) -> Phase
     ensures { λ r. ⌜ r ≡ phaseOf phase value ⌝ }
 {
     match phase {
@@ -187,7 +187,7 @@ pub(crate) fn process_of(process: FlatProcess) -> Process
     }
 }
 
-pub(crate) fn offset_of(bottom: u8, hundredths: i32) -> Offset
+pub(crate) fn offset_of(bottom: u32, hundredths: i32) -> Offset
     ensures { λ r. ⌜ r ≡ flaggedOffset bottom hundredths ⌝ }
 {
     if bottom == 0 {

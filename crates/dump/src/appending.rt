@@ -107,7 +107,7 @@ fn list_template(tuple: Tuple) -> Tuple
     template
 }
 
-fn given(kind: u8, value: u64) -> Field
+fn given(kind: u32, value: u64) -> Field
     ensures { λ r. ⌜ r ≡ record { kind = kind; state = defined; value = value } ⌝ }
 {
     Field {
@@ -117,7 +117,7 @@ fn given(kind: u8, value: u64) -> Field
     }
 }
 
-fn undefined(kind: u8, state: u8) -> Field
+fn undefined(kind: u32, state: u32) -> Field
     ensures { λ r. ⌜ r ≡ record { kind = kind; state = state; value = 0 } ⌝ }
 {
     Field {

@@ -42,7 +42,7 @@ pub(crate) fn make(
     number: usize,
     space: Space,
     process: u32,
-    code: u8,
+    code: u32,
     template: Tuple,
     entry: Tuple,
 ) -> Space {

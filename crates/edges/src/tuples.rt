@@ -12,7 +12,7 @@ use tuple::Tuple;
 use tuple::WILDCARD;
 use tuple::WORD;
 
-fn field(kind: u8, state: u8, value: u64) -> Field {
+fn field(kind: u32, state: u32, value: u64) -> Field {
     Field { kind, state, value }
 }
 
@@ -60,7 +60,7 @@ pub(crate) fn asking() -> Tuple {
 }
 
 // (word 2, count 0, offset), the offset by its code or open
-pub(crate) fn weak(state: u8, code: u64) -> Tuple {
+pub(crate) fn weak(state: u32, code: u64) -> Tuple {
     let blank = Field::blank();
     Tuple {
         count: 3,
@@ -76,7 +76,7 @@ pub(crate) fn weak(state: u8, code: u64) -> Tuple {
 }
 
 // (word 7, and one field more)
-pub(crate) fn pair(kind: u8, value: u64) -> Tuple {
+pub(crate) fn pair(kind: u32, value: u64) -> Tuple {
     let blank = Field::blank();
     Tuple {
         count: 2,

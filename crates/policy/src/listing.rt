@@ -290,7 +290,7 @@ fn may_take_off(config: Config, call: Call) -> bool
 }
 
 // Whether a field has this kind, and no value.
-fn is_undefined(field: Field, kind: u8) -> bool
+fn is_undefined(field: Field, kind: u32) -> bool
     ensures { λ r. ⌜ r ≡ isUndefined kind field ⌝ }
 {
     if is(field, kind, WILDCARD) {

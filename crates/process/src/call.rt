@@ -74,7 +74,7 @@ pub(crate) fn cas_call(process: u32, round: u64, code: u64, set: u64) -> Call
     }
 }
 
-fn given(kind: u8, value: u64) -> Field
+fn given(kind: u32, value: u64) -> Field
     ensures { λ r. ⌜ r ≡ given· kind value ⌝ }
 {
     Field {
@@ -84,7 +84,7 @@ fn given(kind: u8, value: u64) -> Field
     }
 }
 
-fn undefined(kind: u8, state: u8) -> Field
+fn undefined(kind: u32, state: u32) -> Field
     ensures { λ r. ⌜ r ≡ undefined· kind state ⌝ }
 {
     Field {

@@ -12,7 +12,7 @@ use Rattle.record.specs.Heads.{headNumber}
 use Rattle.record.specs.Writing.{fieldBytes, fieldsBytes, tupleBytes, partBytes, callBytes, roomStep, writtenOf, bufferStep, leftOf}
 use Rattle.record.specs.Private.{WritableField, WritablePart, WritableCall}
 use Rattle.record.proofs.NumberLaws.{kind-most}
-use Rattle.tuple.proofs.NoFault.{fields-sound, tuple-sound, PassedPart, call-sound}
+use Rattle.tuple.proofs.NoFault.{known-head, fields-sound, tuple-sound, PassedPart, call-sound}
 use Rattle.varint.proofs.ReadingLaws.{picked}
 use Rattle.tuple.specs.declared.fault.Fault.the-variants.{Absent, Present}
 use Rattle.tuple.specs.declared.field.Field.{Field}
@@ -123,11 +123,12 @@ part-length false tuple writable = omega arith
 -- ---- a call without fault is writable
 
 fields-writable : (entry : Bool) (fields : List Field) → fieldsFault entry fields ≡ Absent → (i : ℕ) → WritableField (getD fields i blankField)
-fields-writable entry [] h i d = omega arith
-fields-writable entry (field ∷ fields) h zero d =
+fields-writable entry [] h i = record { kind = omega arith; state = omega arith; value = λ d. omega arith }
+fields-writable entry (field ∷ fields) h zero =
     let sound = fields-sound entry field fields h .0 in
-    omega (arith, sound .small d, kind-most (field .kind))
-fields-writable entry (field ∷ fields) h (suc i) d = fields-writable entry fields (fields-sound entry field fields h .1) i d
+    let head = known-head field (sound .known) in
+    record { kind = head .0; state = head .1; value = λ d. omega (arith, sound .small d, kind-most (field .kind)) }
+fields-writable entry (field ∷ fields) h (suc i) = fields-writable entry fields (fields-sound entry field fields h .1) i
 
 part-writable : (used entry : Bool) (tuple : Tuple) → PassedPart used entry tuple → WritablePart used tuple
 unfolding partFault

@@ -81,9 +81,9 @@ OnlyOne =
 
 -- ---- reading, and the fault of a call that is handed in
 
--- what bytes can say of a call: its process, code and used counts are numbers, a head is 4 × kind + state with a state of at most 3
+-- what bytes can say of a call: its process, code and used counts are numbers, and so is a head, 4 × kind + state, with a state of at most 3
 pub record Sayable (f : Field) : Type 0 where
-  pub kind : f .kind < 256
+  pub kind : f .kind < 1_073_741_824
   pub state : f .state ≤ 3
 
 pub record SayableTuple (tuple : Tuple) : Type 0 where
@@ -93,7 +93,7 @@ pub record SayableTuple (tuple : Tuple) : Type 0 where
 
 pub record SayableCall (call : Call) : Type 0 where
   pub process : call .process ≤ 4_294_967_295
-  pub code : call .code < 256
+  pub code : call .code ≤ 4_294_967_295
   pub template : HasTemplate call → SayableTuple (call .template)
   pub entry : HasEntry call → SayableTuple (call .entry)
 

@@ -8,12 +8,14 @@ use Rattle.tuple.specs.declared.field.Tuple.{Tuple}
 use Rattle.tuple.specs.declared.field.Call.{Call}
 use Rattle.tuple.specs.Bounds.{places}
 use Rattle.tuple.specs.Faults.{isDefined, usesTemplate, usesEntry}
-use Rattle.tuple.specs.Fields.{blankField}
+use Rattle.tuple.specs.Fields.{processSet, formal, blankField}
 use Rattle.varint.specs.Reading.{largest}
 
--- a value, if it is defined, that is no larger than the largest number
-abbrev pub WritableField : Field → Type 0
-WritableField field = isDefined field ≡ true → field .value ≤ largest
+-- a kind and a state no larger than the known ones, and a value, if it is defined, that is no larger than the largest number
+pub record WritableField (field : Field) : Type 0 where
+  pub kind : field .kind ≤ processSet
+  pub state : field .state ≤ formal
+  pub value : isDefined field ≡ true → field .value ≤ largest
 
 -- few enough fields, each writable
 pub record Writable (tuple : Tuple) : Type 0 where

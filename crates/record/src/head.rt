@@ -11,7 +11,7 @@ use tuple::WORD;
 
 pub(crate) enum Head {
     // A kind and a state.
-    Known(u8, u8),
+    Known(u32, u32),
     Unknown,
 }
 

@@ -102,7 +102,7 @@ impl Cursor {
     }
 
     // Steps past the value of a defined field.
-    fn defined(self, s: &[u8], kind: u8) -> ReadField
+    fn defined(self, s: &[u8], kind: u32) -> ReadField
         ensures { λ r. ⌜ r ≡ valueAt kind (now (s .entry)) (self .at) ⌝ }
     {
         let read = self.number(s);
@@ -203,11 +203,11 @@ impl Cursor {
         if (CAS as u64) < code {
             return no_call(Next::Refused(Refusal::Unknown));
         }
-        cursor.parts(s, process, code as u8)
+        cursor.parts(s, process, code as u32)
     }
 
     // Steps past the template and the entry that a call of this code has.
-    fn parts(self, s: &[u8], process: u32, code: u8) -> ReadCall
+    fn parts(self, s: &[u8], process: u32, code: u32) -> ReadCall
         ensures { λ r. ⌜ r ≡ partsAt process code (now (s .entry)) (self .at) ⌝ }
     {
         let first = self.part(s, tuple::uses_template(code), false);

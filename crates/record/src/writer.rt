@@ -77,6 +77,7 @@ fn tuple_width(tuple: Tuple) -> usize
 }
 
 fn field_width(field: Field) -> usize
+    requires { ⌜ WritableField field ⌝ }
     ensures { λ r. ⌜ r ≡ length (fieldBytes field) ⌝ }
 {
     let head = varint::width(head_number(field));
@@ -148,6 +149,7 @@ fn put_field(buffer: &mut [u8], at: usize, field: Field) -> usize
 }
 
 fn head_number(field: Field) -> u64
+    requires { ⌜ WritableField field ⌝ }
     ensures { λ r. ⌜ r ≡ headNumber field ⌝ }
     ensures { λ r. ⌜ r ≤ largest ⌝ }
 {

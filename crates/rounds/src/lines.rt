@@ -85,7 +85,7 @@ fn sign(byte: u8) {
 }
 
 // The name of a call; the codes are 1 to 4.
-fn name(code: u8) {
+fn name(code: u32) {
     let names: &[u8] = b" out rdp inp cas";
     let end = code as usize * 4;
     if 4 <= end {
@@ -106,7 +106,7 @@ fn fields(tuple: Tuple) {
 }
 
 // A formal field has ? behind the letter of its kind, and a wildcard *.
-fn field(kind: u8, state: u8, value: u64) {
+fn field(kind: u32, state: u32, value: u64) {
     let mut text = [0u8; LONGEST];
     let end = text::put_field(&mut text, 0, Field { kind, state, value });
     if state == DEFINED {

@@ -123,6 +123,6 @@ fn four(word: u64, c: Field, d: Field) -> Tuple {
     }
 }
 
-fn field(kind: u8, state: u8, value: u64) -> Field {
+fn field(kind: u32, state: u32, value: u64) -> Field {
     Field { kind, state, value }
 }

@@ -45,7 +45,7 @@ pub fn put_field(out: &mut [u8], at: usize, field: Field) -> usize
 }
 
 // The letter of a kind, behind a space.
-fn put_letter(out: &mut [u8], at: usize, kind: u8) -> usize
+fn put_letter(out: &mut [u8], at: usize, kind: u32) -> usize
     ensures { λ r. ⌜ r ≡ behind at (length (letterText kind)) ⌝ }
     ensures { λ _. ⌜ now (out .exit) ≡ sets (now (out .entry)) at (letterText kind) ⌝ }
 {
@@ -58,7 +58,7 @@ fn put_letter(out: &mut [u8], at: usize, kind: u8) -> usize
 }
 
 // The value of a field: an offset by its code, every other as it is.
-fn put_value(out: &mut [u8], at: usize, kind: u8, value: u64) -> usize
+fn put_value(out: &mut [u8], at: usize, kind: u32, value: u64) -> usize
     ensures { λ r. ⌜ r ≡ behind at (length (valueText kind value)) ⌝ }
     ensures { λ _. ⌜ now (out .exit) ≡ sets (now (out .entry)) at (valueText kind value) ⌝ }
 {

@@ -86,14 +86,14 @@ fn used_fault(call: Call) -> Fault
 }
 
 // Whether a call of this code has a template: rdp, inp and cas do.
-pub fn uses_template(code: u8) -> bool
+pub fn uses_template(code: u32) -> bool
     ensures { λ r. ⌜ r ≡ usesTemplate code ⌝ }
 {
     if code < RDP { false } else { code <= CAS }
 }
 
 // Whether a call of this code has an entry: out and cas do.
-pub fn uses_entry(code: u8) -> bool
+pub fn uses_entry(code: u32) -> bool
     ensures { λ r. ⌜ r ≡ usesEntry code ⌝ }
 {
     if code == OUT { true } else { code == CAS }

@@ -8,20 +8,20 @@ use crate::bounds::LARGEST_SET;
 use crate::bounds::LARGEST_WORD;
 
 // The kinds of a field; a process set is 01's seats.
-pub const WORD: u8 = 1;
+pub const WORD: u32 = 1;
 
-pub const COUNT: u8 = 2;
+pub const COUNT: u32 = 2;
 
-pub const OFFSET: u8 = 3;
+pub const OFFSET: u32 = 3;
 
-pub const PROCESS_SET: u8 = 4;
+pub const PROCESS_SET: u32 = 4;
 
 // The states of a field: 01's given, any and open.
-pub const DEFINED: u8 = 0;
+pub const DEFINED: u32 = 0;
 
-pub const WILDCARD: u8 = 1;
+pub const WILDCARD: u32 = 1;
 
-pub const FORMAL: u8 = 2;
+pub const FORMAL: u32 = 2;
 
 // The words that have a meaning.
 pub const PROPOSE: u64 = 1;
@@ -33,19 +33,19 @@ pub const LISTING: u64 = 3;
 pub const ANNOUNCING: u64 = 4;
 
 // The codes of the calls.
-pub const OUT: u8 = 1;
+pub const OUT: u32 = 1;
 
-pub const RDP: u8 = 2;
+pub const RDP: u32 = 2;
 
-pub const INP: u8 = 3;
+pub const INP: u32 = 3;
 
-pub const CAS: u8 = 4;
+pub const CAS: u32 = 4;
 
 // A field: its kind, its state and its value. An offset's value is its code.
 #[repr(C)]
 pub struct Field {
-    pub kind: u8,
-    pub state: u8,
+    pub kind: u32,
+    pub state: u32,
     pub value: u64,
 }
 
@@ -60,7 +60,7 @@ pub struct Tuple {
 #[repr(C)]
 pub struct Call {
     pub process: u32,
-    pub code: u8,
+    pub code: u32,
     pub template: Tuple,
     pub entry: Tuple,
 }
@@ -105,7 +105,7 @@ impl Call {
 }
 
 // The largest value of a kind; 0 for what is no kind.
-pub fn largest(kind: u8) -> u64
+pub fn largest(kind: u32) -> u64
     ensures { λ r. ⌜ r ≡ largestOf kind ⌝ }
 {
     match kind {

@@ -39,7 +39,7 @@ pub enum Refusal {
 
 impl Refusal {
     // The number of a refusal.
-    pub fn number(self) -> u8
+    pub fn number(self) -> u32
         ensures { λ r. ⌜ r ≡ numberOf self ⌝ }
     {
         match self {

@@ -6,7 +6,7 @@ use crate::field::DEFINED;
 use crate::field::Field;
 
 // Whether a field has this kind and this state.
-pub fn is(field: Field, kind: u8, state: u8) -> bool
+pub fn is(field: Field, kind: u32, state: u32) -> bool
     ensures { λ r. ⌜ r ≡ is· kind state field ⌝ }
 {
     if field.kind == kind {
@@ -17,7 +17,7 @@ pub fn is(field: Field, kind: u8, state: u8) -> bool
 }
 
 // Whether a field is defined, of this kind, with this value.
-pub fn says(field: Field, kind: u8, value: u64) -> bool
+pub fn says(field: Field, kind: u32, value: u64) -> bool
     ensures { λ r. ⌜ r ≡ says· kind value field ⌝ }
 {
     if is(field, kind, DEFINED) {

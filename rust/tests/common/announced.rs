@@ -442,7 +442,7 @@ impl Helping {
 fn own_template(dice: &mut Dice, seat: u64) -> Tuple {
     let mut template = template_of(seat);
     for field in &mut template.fields[2..4] {
-        field.state = 1 + dice.below(2) as u8;
+        field.state = 1 + dice.below(2) as u32;
     }
     template
 }
@@ -511,7 +511,7 @@ fn near_own_template(dice: &mut Dice, board: &Board, process: u32) -> Tuple {
     let (standing, place) = (announced(board), 2 + dice.below(2) as usize);
     match dice.below(16) {
         0 | 1 => template.fields[1].value = near_seat(dice, board),
-        2 => template.fields[1] = Field { state: 1 + dice.below(2) as u8, value: 0, ..template.fields[1] },
+        2 => template.fields[1] = Field { state: 1 + dice.below(2) as u32, value: 0, ..template.fields[1] },
         3 if !standing.is_empty() => template.fields[place] = dice.pick(&standing).fields[place],
         4 => template.fields[place] = Field { state: 0, value: dice.below(4), ..template.fields[place] },
         5 => template.fields[dice.below(4) as usize] = good_field(dice, false),

@@ -75,7 +75,7 @@ impl Cause {
     pub const STRONG_ONLY: [Cause; 3] = [NoChoiceAgain, StrongMark, StrongNoChoice];
 
     /// The number of its refusal.
-    pub fn number(self) -> u8 {
+    pub fn number(self) -> u32 {
         match self {
             SameAgain | OtherAgain | NoneAgain => 12,
             NoMember | TooFew | Differs | Silent | Several => 13,

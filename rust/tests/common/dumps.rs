@@ -8,6 +8,7 @@ use reference::config::{BARE, LIST, STRONG, WAIT_FREE, WEAK};
 use reference::dump::LONGEST_DUMP;
 use reference::records::Reader;
 use reference::script::run;
+use reference::sys::Crosses;
 use reference::{flat, sys};
 use reference::{Answer, Board, Code, Config, Kind, Refusal, Tuple};
 
@@ -140,7 +141,7 @@ fn ends_in(script: &[u8], board: &Board) {
         assert!([0, 3].contains(&applied.reply.outcome), "{:?} to {:?}", applied.reply, read.call);
         (space, at) = (applied.space, read.next);
     }
-    assert!(space == flat::space(board), "{script:02X?} ends in {space:?}, not in {board:?}");
+    assert!(space.bytes() == flat::space(board).bytes(), "{script:02X?} ends in {space:?}, not in {board:?}");
 
     let mut plain = Board::fresh(board.config).expect("a sound set-up");
     let mut reader = Reader::new(&script[numbers.len()..]);
@@ -163,14 +164,14 @@ fn ends_in(script: &[u8], board: &Board) {
 }
 
 /// By whom, and by which call, this tuple is written.
-fn writer(policy: u64, tuple: &Tuple) -> (u64, u8) {
+fn writer(policy: u64, tuple: &Tuple) -> (u64, u32) {
     let [word, _, third, ..] = tuple.fields.map(|field| field.value);
     match policy {
-        BARE => (1, Code::Out as u8),
-        WEAK => (1, Code::Cas as u8),
-        LIST => (third, Code::Cas as u8),
-        _ if word == 1 => (third, Code::Out as u8),
-        _ => (1, Code::Cas as u8),
+        BARE => (1, Code::Out as u32),
+        WEAK => (1, Code::Cas as u32),
+        LIST => (third, Code::Cas as u32),
+        _ if word == 1 => (third, Code::Out as u32),
+        _ => (1, Code::Cas as u32),
     }
 }
 
@@ -181,7 +182,7 @@ fn text_of(board: &Board, numbers: &[u64]) -> String {
     let mut text = format!("board {}\n", numbers.join(" "));
     for (number, tuple) in (1..).zip(board.held()) {
         let (_, code) = writer(board.config.policy, tuple);
-        text += &format!("{number} {}\n", if code == Code::Out as u8 { "done" } else { "inserted" });
+        text += &format!("{number} {}\n", if code == Code::Out as u32 { "done" } else { "inserted" });
     }
     text + &format!("tuples {}\n", board.count)
 }

@@ -464,7 +464,7 @@ pub fn looks_listed(tuple: &Tuple) -> Option<(u64, u64, u64, u64)> {
     let counts = [position, seat, serial];
     let [position, seat, serial] = counts.map(|field| field.value.min(Kind::Count.last()));
     let shift = shift.value.clamp(1, Offset::LAST);
-    counts.iter().all(|field| field.kind == Kind::Count as u8).then_some((position, seat, serial, shift))
+    counts.iter().all(|field| field.kind == Kind::Count as u32).then_some((position, seat, serial, shift))
 }
 
 /// The template of a list tuple but for one field, or for how many it has.
@@ -476,7 +476,7 @@ pub fn near_template(dice: &mut Dice, entry: &Tuple) -> Tuple {
         1 => return Tuple::of(&[&fields[..5], &[good_field(dice, false)]].concat()),
         2 => fields[place] = entry.fields[place],
         3 => fields[place] = good_field(dice, false),
-        _ => fields[place] = Field { state: 1 + dice.below(2) as u8, value: 0, ..fields[place] },
+        _ => fields[place] = Field { state: 1 + dice.below(2) as u32, value: 0, ..fields[place] },
     }
     Tuple::of(&fields[..5])
 }
@@ -487,7 +487,7 @@ fn some_template(dice: &mut Dice, board: &Board) -> Tuple {
         if board.held().is_empty() { good_tuple(dice, false) } else { dice.pick(board.held()) };
     for field in template.fields.iter_mut().take(template.count) {
         if dice.one_in(2) {
-            *field = Field { state: 1 + dice.below(2) as u8, value: 0, ..*field };
+            *field = Field { state: 1 + dice.below(2) as u32, value: 0, ..*field };
         }
     }
     template

@@ -19,6 +19,7 @@ use reference::fields::{MOST_FIELDS, MOST_SEATS};
 use reference::list::LAST_POSITION;
 use reference::records::{read_record, record_of, write_record};
 use reference::script::{run, run_into, LONGEST_SCRIPT};
+use reference::sys::Crosses;
 use reference::{flat, sys};
 use reference::{
     Answer, AnswerKind, Board, Call, Config, Field, Kind, Offset, Phase, Refusal, Seat, Step, Tuple,
@@ -97,10 +98,11 @@ pub const VALUES: [u64; 33] = [
     u64::MAX,
 ];
 
-pub const KINDS: [u8; 7] = [0, 1, 2, 3, 4, 5, 255];
-pub const STATES: [u8; 5] = [0, 1, 2, 3, 255];
+/// Kinds, states and codes, and numbers whose low bytes are one's.
+pub const KINDS: [u32; 8] = [0, 1, 2, 3, 4, 5, 65_538, u32::MAX];
+pub const STATES: [u32; 6] = [0, 1, 2, 3, 65_536, u32::MAX];
 pub const COUNTS: [usize; 9] = [0, 1, 2, 3, 4, 5, 6, 7, usize::MAX];
-pub const CODES: [u8; 7] = [0, 1, 2, 3, 4, 5, 255];
+pub const CODES: [u32; 8] = [0, 1, 2, 3, 4, 5, 65_540, u32::MAX];
 pub const SEATS: [u32; 9] = [0, 1, 2, 4, 5, MOST_SEATS as u32, MOST_SEATS as u32 + 1, 127, u32::MAX];
 
 /// Every policy, and numbers that are none's.
@@ -250,7 +252,7 @@ pub fn soil(dice: &mut Dice, place: &mut Tuple, part: u64) {
     // A field in use has a kind, an unused one is blank.
     let field = &mut place.fields[(part - 1) as usize / 3];
     match (part % 3, Kind::from_number(field.kind)) {
-        (0, Some(_)) => field.kind = dice.pick(&[0, 5, 255]),
+        (0, Some(kind)) => field.kind = dice.pick(&[0, 5, 65_536 + kind as u32, u32::MAX]),
         (0, None) => field.kind = dice.pick(&KINDS[1..]),
         (1, _) => field.state = dice.pick(&STATES[1..]),
         (_, Some(kind)) => field.value = dice.pick(&[kind.last() + 1, u64::MAX]),
@@ -262,9 +264,19 @@ pub fn soil(dice: &mut Dice, place: &mut Tuple, part: u64) {
 
 /// What proved and plain give must be equal. `rust/plant` looks for these words, and sets `FIRST`, by which all ends at the first difference.
 fn same<T: PartialEq + Debug>(proved: T, plain: T, input: impl FnOnce() -> String) {
-    if proved == plain {
-        return;
+    if proved != plain {
+        differ(proved, plain, input);
     }
+}
+
+/// The same of structs that cross, byte by byte.
+fn same_bytes<T: Crosses>(proved: T, plain: T, input: impl FnOnce() -> String) {
+    if proved.bytes() != plain.bytes() {
+        differ(proved, plain, input);
+    }
+}
+
+fn differ<T: Debug>(proved: T, plain: T, input: impl FnOnce() -> String) -> ! {
     let difference = format!("proved and plain differ: {}\nproved {proved:?}\nplain {plain:?}", input());
     if std::env::var_os("FIRST").is_some() {
         println!("{difference}");
@@ -277,19 +289,24 @@ fn same<T: PartialEq + Debug>(proved: T, plain: T, input: impl FnOnce() -> Strin
 pub fn compare_fresh(config: Config) -> Result<Board, Refusal> {
     let plain = Board::fresh(config);
     let blank = Board { config: Config::default(), count: 0, tuples: [Tuple::BLANK; MOST_TUPLES] };
-    let refusal = plain.as_ref().map_or_else(|refusal| refusal.number(), |_| 0);
+    let refusal = plain.as_ref().map_or_else(|refusal| refusal.number().into(), |_| 0);
     let space = flat::space(plain.as_ref().unwrap_or(&blank));
-    same(sys::fresh(flat::config(&config)), sys::Opened { refusal, space }, || format!("{config:?}"));
+    same_bytes(sys::fresh(flat::config(&config)), sys::Opened { refusal, space }, || format!("{config:?}"));
     plain
 }
 
-/// A call on a board, by both: the answer and the whole board afterwards must be equal.
+/// A call on a board, by both: the answer and the whole board afterwards must be equal, and where the call is refused the board that was handed in.
 pub fn compare_call(board: &mut Board, call: &Call) -> Answer {
     let before = board.clone();
-    let ours = sys::apply(flat::space(&before), flat::call(call));
+    let handed = flat::space(&before);
+    let ours = sys::apply(handed, flat::call(call));
     let answer = Answer::from(board.call(call));
     let plain = sys::Applied { reply: flat::reply(&answer), space: flat::space(board) };
-    same(ours, plain, || format!("{call:?}\non {before:?}"));
+    let input = || format!("{call:?}\non {before:?}");
+    same_bytes(ours, plain, input);
+    if refused(&answer) {
+        same_bytes(ours.space, handed, input);
+    }
     answer
 }
 
@@ -319,9 +336,9 @@ pub fn compare_read(bytes: &[u8], at: usize) -> bool {
     let proved = sys::read(bytes, at);
     let plain = match read_record(bytes.get(at..).unwrap_or(&[])) {
         Ok((call, taken)) => sys::Read { refusal: 0, next: at + taken, call: flat::call(&call) },
-        Err(refusal) => sys::Read { refusal: refusal.number(), ..sys::Read::default() },
+        Err(refusal) => sys::Read { refusal: refusal.number().into(), ..sys::Read::default() },
     };
-    same(proved, plain, || format!("{bytes:02X?} at {at}"));
+    same_bytes(proved, plain, || format!("{bytes:02X?} at {at}"));
     plain.refusal == 0
 }
 
@@ -401,28 +418,32 @@ pub fn compare_flagged(
     config: Config,
     process: u32,
     round: u64,
-    (bottom, hundredths): (u8, i32),
+    (bottom, hundredths): (u32, i32),
 ) -> Result<(Seat, Call), Refusal> {
     let offset = if bottom == 0 { Offset::Number(hundredths.into()) } else { Offset::Mark };
     let ours = sys::start(flat::config(&config), process, round, bottom, hundredths);
     let plain = Seat::start(config, process, round, offset.travelling().unwrap_or(u64::MAX));
     let input = || format!("{config:?} {process} {round} {bottom} {hundredths}");
-    same(ours, flat::started(&plain), input);
+    same_bytes(ours, flat::started(&plain), input);
     plain
 }
 
-/// Handing a state an answer, by both: what comes next and the whole state afterwards.
+/// Handing a state an answer, by both: what comes next and the whole state afterwards, and after a refusal the state that was handed in.
 pub fn compare_hand(seat: &Seat, answer: &Answer) -> Result<(Seat, Step), Refusal> {
     let before = flat::process(seat);
     let ours = sys::resume(before, flat::reply(answer));
     let plain = seat.hand(answer);
-    same(ours, flat::handed(&before, &plain), || format!("{seat:?} {answer:?}"));
+    let input = || format!("{seat:?} {answer:?}");
+    same_bytes(ours, flat::handed(&before, &plain), input);
+    if plain.is_err() {
+        same_bytes(ours.process, before, input);
+    }
     plain
 }
 
 /// What a seat waits for that is not of this crate's types: numbers that are no phase's, no outcome's, or too large.
 pub fn compare_numbers(process: sys::Process, reply: sys::Reply, expected: sys::Step) {
-    same(sys::resume(process, reply), expected, || format!("{process:?} {reply:?}"));
+    same_bytes(sys::resume(process, reply), expected, || format!("{process:?} {reply:?}"));
 }
 
 /// The record of a call that is known to be sound.
@@ -433,7 +454,7 @@ pub fn record(call: &Call) -> Vec<u8> {
 /// The number of the answer's refusal, 0 if it was obeyed.
 pub fn refusal_of(answer: &Answer) -> usize {
     match answer.kind {
-        AnswerKind::Refused(refusal) => refusal.number().into(),
+        AnswerKind::Refused(refusal) => refusal.number() as usize,
         _ => 0,
     }
 }

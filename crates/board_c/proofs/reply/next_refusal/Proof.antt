@@ -14,6 +14,9 @@ enum-known-next c = search needs
 number-requires : tie.Need-number-requires
 number-requires c κs = search needs
 
+wide-requires : tie.Need-wide-requires
+wide-requires c κs = search needs
+
 returns : tie.Need-returns
 returns c = sym (ap nextRefusal (c .enum-told .given .1))
 
@@ -22,4 +25,4 @@ returns-2 c = search needs
 
 pub next-refusal-spec : {M : Type 1} → statement M
 next-refusal-spec =
-    tie.close (tie.spec enum-told enum-known-next number-requires returns returns-2)
+    tie.close (tie.spec enum-told enum-known-next number-requires wide-requires returns returns-2)

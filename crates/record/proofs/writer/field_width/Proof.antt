@@ -12,7 +12,7 @@ use Rattle.record.proofs.writer.field_width.Statement.{statement}
 use Rattle.record.proofs.writer.field_width.Tie as tie
 
 head-number-requires : tie.Need-head-number-requires
-head-number-requires c κs = search needs
+head-number-requires c κs = c .pre
 
 width-requires : tie.Need-width-requires
 width-requires c κs = search needs

@@ -20,7 +20,7 @@ head c =
     subst (λ (h : ℕ). Wrote (s .args .buffer .now) (s .args .at) (bytesOf h) (c .put-number .result) (c .put-number .last .0)) (c .before .head-number .ensures .0) (c .put-number .ensures)
 
 head-number-requires : tie.Need-head-number-requires
-head-number-requires c κs = search needs
+head-number-requires c κs = c .before .before .pre .0
 
 put-number-requires : tie.Need-put-number-requires
 put-number-requires c κs =
@@ -34,7 +34,7 @@ put-number-requires-2 c κs =
     let p = c .before .before .before .before .before in
     let s = p .before .before .before .before in
     let d = eq-eqb (s .args .field .state) 0 (c .before .if1 .taken) in (
-      s .pre .0 d,
+      s .pre .0 .value d,
       omega (
         arith,
         ap length (sym (bytes-defined (s .args .field) d)),

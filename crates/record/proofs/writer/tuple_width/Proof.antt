@@ -46,7 +46,9 @@ element-copy-out-field : tie.Need-element-copy-out-field Inv-loop μ-loop
 element-copy-out-field c = search needs
 
 field-width-requires : tie.Need-field-width-requires Inv-loop μ-loop
-field-width-requires c κs = search needs
+field-width-requires c κs =
+    let l = c .before .before in
+    l .before .before .pre .each (l .loop .i) (c .before .loop-test .taken)
 
 add-n : tie.Need-add-n Inv-loop μ-loop
 add-n c =

@@ -1,13 +1,15 @@
 -- The table of what crosses to C, computed; and by cases what stands outside it.
 use mathlib.Core.Path.{_≡_, refl, ap}
-use mathlib.Core.Bool.{false}
+use mathlib.Core.Bool.{Bool, false, cond}
 use native.Mathlib.Omega.{arith}
 use Prim.Native.Nat.{ℕ, _≤_, _<_}
 use lib.Dec.{eqb}
+use lib.IntN.{ℤ}
 use borrow.Author.Tests.{ne-eqb}
 use Rattle.board_c.specs.Flat.{plainOutcome, outcomeOf, isPhase, phaseOf, flaggedOffset}
 use Rattle.board_c.specs.Numbers.{reply, Numbers}
 use Rattle.board_c.proofs.FlatLaws.{no-phase}
+use Rattle.tuple.specs.declared.offset.Offset.the-variants.{Bottom, Hundredths}
 use Rattle.tuple.specs.declared.refusal.Refusal.{Refusal}
 use Rattle.tuple.specs.declared.refusal.Refusal.the-variants.{Unscripted}
 use Rattle.tuple.specs.declared.reply.Outcome.the-variants.{Refused}
@@ -36,6 +38,11 @@ from-fifteen number h =
       above number 14 (omega arith),
     )
 
+-- every flag but 0 is bottom's, however large
+flagged : (bottom : ℕ) (z : ℤ) → 1 ≤ bottom → flaggedOffset bottom z ≡ Bottom
+unfolding flaggedOffset
+flagged bottom z h = ap (λ (none : Bool). cond none (Hundredths z) Bottom) (above bottom 0 h)
+
 pub numbers : Numbers
 unfolding plainOutcome outcomeOf isPhase phaseOf flaggedOffset
 numbers =
@@ -54,7 +61,7 @@ numbers =
       state-none = λ process reply none. rw none;
       step-out = λ process call z. refl;
       offset-in = λ z. refl;
-      bottom-in = λ bottom z h. rw (above bottom 0 h);
+      bottom-in = flagged;
       opening-out = λ space. refl;
       reading-out = λ call next. refl;
       text-out = λ length. refl;

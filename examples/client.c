@@ -1,5 +1,5 @@
-/* A client of the proved library: the worked script's text, its first call made by hand, its seven calls one by one, and a round that four seats
- * settle. */
+/* A client of the proved library: the worked script's text, its first call made by hand, its seven calls one by one, the board they leave as a script and
+ * back, and a round that four seats settle. */
 #include <inttypes.h>
 #include <stdio.h>
 #include <string.h>
@@ -90,19 +90,57 @@ static int by_hand(void) {
     return 0;
 }
 
-static int by_calls(board_space space) {
+static int by_calls(board_space *space) {
     size_t at = SET_UP;
     while (at < sizeof worked) {
         board_read_call read = board_read(worked, sizeof worked, at);
         if (read.refusal != BOARD_REFUSAL_NONE) {
             return refused("a reading", read.refusal);
         }
-        board_applied applied = board_apply(space, read.call);
-        space = applied.space;
+        board_applied applied = board_apply(*space, read.call);
+        *space = applied.space;
         at = read.next;
         printf("seat %" PRIu32 " ", read.call.process);
         print_reply(applied.reply);
     }
+    return 0;
+}
+
+/* ---- a board as a script, and back */
+
+static int bring_back(const board_space *kept) {
+    uint8_t script[BOARD_DUMP_BYTES];
+    uint64_t length = board_dump(*kept, script, sizeof script);
+    if (length >= BOARD_REFUSED_LENGTH) {
+        return refused("a board as a script", length - BOARD_REFUSED_LENGTH);
+    }
+    size_t at = 3;
+    board_config config = {.n = script[0], .t = script[1], .policy = script[2]};
+    if (config.policy == BOARD_POLICY_CHOICE) {
+        config.k = script[at++];
+    }
+    board_opened opened = board_fresh(config);
+    if (opened.refusal != BOARD_REFUSAL_NONE) {
+        return refused("its set-up", opened.refusal);
+    }
+    board_space space = opened.space;
+    while (at < length) {
+        board_read_call read = board_read(script, (size_t)length, at);
+        if (read.refusal != BOARD_REFUSAL_NONE) {
+            return refused("its records", read.refusal);
+        }
+        board_applied applied = board_apply(space, read.call);
+        if (applied.reply.outcome != BOARD_OUTCOME_DONE && applied.reply.outcome != BOARD_OUTCOME_INSERTED) {
+            return refused("its calls", applied.reply.refusal);
+        }
+        space = applied.space;
+        at = read.next;
+    }
+    if (memcmp(&space, kept, sizeof space) != 0) {
+        fputs("another board came back\n", stderr);
+        return 1;
+    }
+    printf("%" PRIu64 " bytes bring %zu tuples back\n", length, space.count);
     return 0;
 }
 
@@ -151,5 +189,6 @@ int main(void) {
     if (opened.refusal != BOARD_REFUSAL_NONE) {
         return refused("a fresh board", opened.refusal);
     }
-    return whole() || by_hand() || by_calls(opened.space) || settle(opened.space, offsets, 4);
+    board_space space = opened.space;
+    return whole() || by_hand() || by_calls(&space) || bring_back(&space) || settle(opened.space, offsets, 4);
 }

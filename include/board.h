@@ -116,7 +116,7 @@ enum {
 static inline const char *board_refusal_text(uint64_t refusal) {
     switch (refusal) {
     case 0: return "not refused";
-    case 1: return "the set-up is not sound, or the board or the seat's state that was handed in is not well formed";
+    case 1: return "the set-up is not sound, or the board or the seat's state that was handed in is not well formed; of a start, the policy is not 2 or 3";
     case 2: return "the bytes end inside a number or a record";
     case 3: return "a number is too long or not shortest, or a value is beyond its kind; of a start, the round is above 7 or the offset may not be proposed";
     case 4: return "the call, or the kind or state of a field, is unknown";
@@ -135,7 +135,7 @@ static inline const char *board_refusal_text(uint64_t refusal) {
     }
 }
 
-/* A length is below this; a refusal is this and its number. */
+/* A length is below this; a refusal is this plus its number. */
 #define BOARD_REFUSED_LENGTH UINT64_C(4294967296)
 
 /* ---- the value of an offset's field */

@@ -180,3 +180,30 @@ fn the_refusals_have_the_fitters_words() {
     assert!(refused.iter().map(|(number, _)| *number).eq(1..=15), "{refused:?}");
     assert_eq!(page.lines().filter_map(tabled).collect::<Vec<_>>(), refused);
 }
+
+/// The bytes passed and those that come back, in the firmware page's table of the stack.
+#[test]
+fn the_firmware_page_has_these_sizes() {
+    let (space, call, config) = (size_of::<sys::Space>(), size_of::<sys::Call>(), size_of::<sys::Config>());
+    let (process, reply, step) = (size_of::<sys::Process>(), size_of::<sys::Reply>(), size_of::<sys::Step>());
+    let expected = [
+        ("board_apply", space + call, size_of::<sys::Applied>()),
+        ("board_dump", space, 0),
+        ("board_fresh", config, size_of::<sys::Opened>()),
+        ("board_read", 0, size_of::<sys::Read>()),
+        ("board_resume", process + reply, step),
+        ("board_script", 0, 0),
+        ("board_start", config, step),
+        ("board_write", call, 0),
+    ];
+    let page = file("docs/FIRMWARE.md");
+    let number = |cell: &str| cell.replace(',', "").parse().unwrap_or(0);
+    let rows = page
+        .lines()
+        .map(|line| line.split('|').map(|cell| cell.trim_matches([' ', '`'])).collect::<Vec<_>>());
+    let found: Vec<(String, usize, usize)> = rows
+        .filter(|cells| cells.len() == 6 && cells[1].starts_with("board_"))
+        .map(|cells| (cells[1].to_owned(), number(cells[3]), number(cells[4])))
+        .collect();
+    assert_eq!(found, expected.map(|(name, passed, back)| (name.to_owned(), passed, back)));
+}

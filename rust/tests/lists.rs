@@ -22,14 +22,26 @@ fn board_of_a_list(dice: &mut Dice) -> Board {
     board_with(config, &odd_list(dice, &config))
 }
 
-/// Calls on lists handed in: with gaps, positions twice, marks, seats above n and other tuples, and on full boards.
-#[test]
-fn lists_handed_in() {
-    let mut dice = Dice::new(17);
+/// A board under policy 5 with a list and announcements that no run need make.
+fn board_of_announcements(dice: &mut Dice) -> Board {
+    let n = 1 + dice.below(MOST_SEATS);
+    let config = config_of(dice, n, WAIT_FREE);
+    board_with(config, &odd_tuples(dice, &config))
+}
+
+/// Five calls on each of many boards handed in, and what was answered and denied.
+fn calls_handed_in(
+    seed: u64,
+    boards: usize,
+    board: fn(&mut Dice) -> Board,
+    near_call: fn(&mut Dice, &Board, u32) -> Call,
+    name: &str,
+) -> Denials {
+    let mut dice = Dice::new(seed);
     let (mut inputs, mut outcomes) = (0, [0usize; ANSWERS]);
     let mut denials = Denials::default();
-    for _ in 0..5_000 {
-        let before = board_of_a_list(&mut dice);
+    for _ in 0..boards {
+        let before = board(&mut dice);
         for _ in 0..5 {
             let n = before.config.n;
             let process = if dice.one_in(20) { dice.pick(&[0, n + 1]) } else { 1 + dice.below(n) } as u32;
@@ -40,12 +52,31 @@ fn lists_handed_in() {
             inputs += 1;
         }
     }
-    println!("compared {inputs:>7} calls on lists handed in: answered, refused 1 to 13: {outcomes:?}");
+    println!("compared {inputs:>7} calls on {name} handed in: answered, refused 1 to 13: {outcomes:?}");
     denials.print();
-    let lists = &denials.lists;
+    denials
+}
+
+/// Boards handed in, and boards beside them, written back.
+fn dumps_handed_in(seed: u64, boards: usize, board: fn(&mut Dice) -> Board, name: &str) -> Dumps {
+    let mut dice = Dice::new(seed);
+    let mut dumps = Dumps::default();
+    for _ in 0..boards {
+        let board = board(&mut dice);
+        _ = dumps.note(&if dice.one_in(2) { near_miss(&mut dice, &board) } else { board });
+    }
+    println!("compared {:>7} {name} handed in written back, and boards beside them", dumps.boards());
+    dumps.print();
+    dumps
+}
+
+/// Calls on lists handed in: with gaps, positions twice, marks, seats above n and other tuples, and on full boards.
+#[test]
+fn lists_handed_in() {
+    let lists = calls_handed_in(17, 5_000, board_of_a_list, near_call, "lists").lists;
     lists.assert_each(&Cause::UNDER_4, 50);
-    let least = [lists.inserted, lists.held, lists.found, lists.none, lists.full].into_iter().min();
-    assert!(least > Some(200), "{outcomes:?}");
+    let came = [lists.inserted, lists.held, lists.found, lists.none, lists.full];
+    assert!(came.iter().all(|often| *often > 200), "{came:?}");
 }
 
 /// Where 1 and 3 stand, 2 and 4 are both permitted, and 3 is not; nor is what is listed, though its position is taken.
@@ -105,48 +136,16 @@ fn lists_of_112_positions() {
 
 #[test]
 fn lists_handed_in_written_back() {
-    let mut dice = Dice::new(19);
-    let mut dumps = Dumps::default();
-    for _ in 0..4_000 {
-        let board = board_of_a_list(&mut dice);
-        _ = dumps.note(&if dice.one_in(2) { near_miss(&mut dice, &board) } else { board });
-    }
-    println!("compared {:>7} lists handed in written back, and boards beside them", dumps.boards());
-    dumps.print();
+    let dumps = dumps_handed_in(19, 4_000, board_of_a_list, "lists");
     dumps.assert_came(LIST, 50);
     dumps.assert_each(LIST, &Flaw::UNDER_4, 25);
-}
-
-/// A board under policy 5 with a list and announcements that no run need make.
-fn board_of_announcements(dice: &mut Dice) -> Board {
-    let n = 1 + dice.below(MOST_SEATS);
-    let config = config_of(dice, n, WAIT_FREE);
-    board_with(config, &odd_tuples(dice, &config))
 }
 
 /// Calls on announcements handed in: two of one seat, with the mark, of seats above n, of what is listed, with its shift or another.
 #[test]
 fn announcements_handed_in() {
-    let mut dice = Dice::new(24);
-    let (mut inputs, mut outcomes) = (0, [0usize; ANSWERS]);
-    let mut denials = Denials::default();
-    for _ in 0..14_000 {
-        let before = board_of_announcements(&mut dice);
-        for _ in 0..5 {
-            let n = before.config.n;
-            let process = if dice.one_in(20) { dice.pick(&[0, n + 1]) } else { 1 + dice.below(n) } as u32;
-            let call = announced::near_call(&mut dice, &before, process);
-            let answer = compare_call(&mut before.clone(), &call);
-            denials.note(&before, &call, &answer);
-            outcomes[refusal_of(&answer)] += 1;
-            inputs += 1;
-        }
-    }
-    println!(
-        "compared {inputs:>7} calls on announcements handed in: answered, refused 1 to 13: {outcomes:?}"
-    );
-    denials.print();
-    let lists = &denials.announced;
+    let lists =
+        calls_handed_in(24, 14_000, board_of_announcements, announced::near_call, "announcements").announced;
     lists.assert_each(&Cause::UNDER_4, 50);
     lists.assert_each(&Cause::UNDER_5, 50);
     let came = [lists.inserted, lists.held, lists.found, lists.none, lists.full, lists.done];
@@ -314,13 +313,6 @@ fn lists_of_112_announcements() {
 
 #[test]
 fn announcements_handed_in_written_back() {
-    let mut dice = Dice::new(25);
-    let mut dumps = Dumps::default();
-    for _ in 0..3_000 {
-        let board = board_of_announcements(&mut dice);
-        _ = dumps.note(&if dice.one_in(2) { near_miss(&mut dice, &board) } else { board });
-    }
-    println!("compared {:>7} boards of announcements handed in, and boards beside them", dumps.boards());
-    dumps.print();
+    let dumps = dumps_handed_in(25, 3_000, board_of_announcements, "boards of announcements");
     dumps.assert_came(WAIT_FREE, 50);
 }

@@ -6,9 +6,9 @@ use Prim.Native.Nat.{ℕ, zero, suc, _+_, _-_, _≤_, _<_}
 use native.Mathlib.Omega.{arith}
 use mathlib.Core.Bool.{true, false, false≢true}
 use mathlib.Core.List.{List, [], _∷_, _++_, append-nil, List·Memᴰ, List·Memᴰ·head, List·Memᴰ·tail, List·Memᴰ·not-nil, List·Memᴰ·cases-cons, List·Memᴰ·append-cases, List·Memᴰ·eq-of-singleton, Memᴰ·append-left, Memᴰ·append-right}
-use lib.ListN.{length, getD, length-append, List·getD-append}
+use lib.ListN.{length, getD, length-append}
 use lib.Dec.{eqb}
-use borrow.Author.Tests.{eqb-true, eqb-false, lt-ltb, le-leb}
+use borrow.Author.Tests.{eqb-true, eqb-false}
 use borrow.Table.Steps.{cases}
 use Rattle.calls.specs.declared.turn.Applied.{Applied}
 use Rattle.calls.specs.Changes.{carriedOut}
@@ -18,32 +18,32 @@ use Rattle.calls.specs.Lists.{listOf, listAfter, listFor, listCas, annou
 use Rattle.calls.specs.Turns.{firstRefusal, judged, applied, turnsFrom, lastOf, after, last}
 use Rattle.calls.proofs.CallSteps.{Moves}
 use Rattle.calls.proofs.HelpingLaws.{prefers-whole}
-use Rattle.calls.proofs.ListSteps.{listed-mem, mem-listed, list-append, orderly-few, orderly-all, announcement-other, key, key-other, apart-differ, Shared, shared-none, shared-few, list-keeps}
+use Rattle.calls.proofs.ListSteps.{listed-mem, mem-listed, list-append, orderly-all, announcement-other, key, key-other, apart-differ, Shared, shared-none, list-keeps}
 use Rattle.calls.proofs.ListingLaws.{list-call, next-inserted, next-space, announce-applied}
 use Rattle.calls.proofs.RunSteps.{Goes, Run, next, none-lawful, held-run, fresh-space}
 use Rattle.calls.proofs.SumLaws.{after-append}
-use Rattle.policy.specs.Listing.{isListTemplate, positions, isListCall, isNew, begins, follows, preferred, owed, isDue, mayList, mayAnnounce, shared}
+use Rattle.policy.specs.Listing.{positions, isListCall, isNew, begins, follows, preferred, owed, isDue, mayList, mayAnnounce, shared}
 use Rattle.policy.specs.Policies.{verdictOn, verdict}
 use Rattle.policy.proofs.AnnouncingLaws.{lists-five, due-rule}
 use Rattle.space.specs.declared.config.Config.{Config}
 use Rattle.space.specs.declared.space.Space.{Space}
-use Rattle.space.specs.Announcements.{isAnnouncement, announces, announcedOf, announcerOf, announcedSerial, announcedCode, announcement, Announcing, Oldest}
+use Rattle.space.specs.Announcements.{isAnnouncement, announces, announcedOf, announcerOf, announcedSerial, announcedCode, Announcing, Oldest}
 use Rattle.space.specs.Configs.{plainSound, sound, hasProposals, hasList, known}
-use Rattle.space.specs.Lists.{isListTuple, listTuple, positionOf, serialOf, lists, isThere, isFilled, isListed, Listed}
+use Rattle.space.specs.Lists.{isListTuple, positionOf, serialOf, lists, isThere, isFilled, isListed, Listed}
 use Rattle.space.specs.Shapes.{processOf}
 use Rattle.space.specs.Spaces.{held, spaceOf, placeSound, placesFrom, bounded, wellFormed, freshOf}
 use Rattle.space.proofs.ConfigLaws.{sound-rule, sound-range}
 use Rattle.space.proofs.ListLaws.{list-tuple}
-use Rattle.space.proofs.SpaceRules.{Lawful, held-of, formed-of, place, stands}
-use Rattle.tuple.specs.declared.fault.Fault.the-variants.{Absent}
+use Rattle.space.proofs.SpaceRules.{Lawful, held-of, place, stands}
 use Rattle.tuple.specs.declared.field.Tuple.{Tuple}
 use Rattle.tuple.specs.declared.field.Call.{Call}
 use Rattle.tuple.specs.declared.reply.Outcome.{Outcome}
 use Rattle.tuple.specs.declared.reply.Outcome.the-variants.{Done, Inserted}
-use Rattle.tuple.specs.Bounds.{capacity, largestCount}
 use Rattle.tuple.specs.Faults.{callFault, usedFault, usesTemplate, usesEntry, partFault, tupleFault, fieldsFault, fieldFault, knownHead, restBlank, restFrom, placeBlank, isBlank, isEntry}
 use Rattle.tuple.specs.Fields.{cas, largestOf, blankTuple}
+use Rattle.tuple.specs.Forms.{listTuple, announcement}
 use Rattle.tuple.specs.Matching.{fieldMatches, fieldsMatch, matches, oldestFrom, oldestOf}
+use Rattle.tuple.specs.Shapes.{hasShape}
 
 -- ---- what cas calls leave stands
 
@@ -188,7 +188,7 @@ module _ (config : Config) (safe : sound config ≡ true) (five : config .policy
   -- ---- the announcement
 
   waiting-shape : isAnnouncement waiting ≡ true
-  unfolding isAnnouncement
+  unfolding isAnnouncement hasShape
   waiting-shape = refl
 
   module _ (tuples : List Tuple) (state : State tuples) (none : Announcing tuples process → ⊥) where
@@ -375,7 +375,7 @@ only-alone config safe five one =
     λ i. record { n = one i; t = none i; policy = five i; k = plain i }
 
 alone-run : AloneRun alone
-unfolding alone lastOf turnsFrom applied judged firstRefusal verdict verdictOn shared mayList isListCall isListTemplate isListTuple isNew begins follows preferred owed isDue mayAnnounce
+unfolding alone lastOf turnsFrom applied judged firstRefusal verdict verdictOn shared mayList isListCall hasShape isNew begins follows preferred owed isDue mayAnnounce
     isAnnouncement announces announcedOf isListed isFilled isThere lists
     hasProposals hasList plainSound sound known bounded placeSound placesFrom wellFormed freshOf carriedOut effect
     callFault usedFault usesTemplate usesEntry partFault tupleFault fieldsFault fieldFault knownHead largestOf restBlank restFrom placeBlank isBlank isEntry

@@ -1,11 +1,11 @@
 -- Every list that can be picked is the list of some run, and there all processes have read all of it: each entry is inserted in its turn, and then each
 -- process reads position by position.
 use mathlib.Core.Path.{_≡_, refl, sym, ap, _∙_, subst}
-use mathlib.Core.Logic.{inl, inr, ⊎-elim}
+use mathlib.Core.Logic.{inl, ⊎-elim}
 use Prim.Native.Nat.{ℕ, zero, suc, _+_, _≤_, _<_}
 use native.Mathlib.Omega.{arith}
-use mathlib.Core.Bool.{true, false}
-use mathlib.Core.List.{List, [], _∷_, _++_, append-nil, append-assoc, List·Memᴰ, List·Memᴰ·head, List·Memᴰ·tail, List·Memᴰ·not-nil, List·Memᴰ·cases-cons, List·Memᴰ·append-cases, List·Memᴰ·eq-of-singleton, Memᴰ·append-left, Memᴰ·append-right}
+use mathlib.Core.Bool.{true}
+use mathlib.Core.List.{List, [], _∷_, _++_, append-nil, List·Memᴰ, List·Memᴰ·head, List·Memᴰ·tail, List·Memᴰ·not-nil, List·Memᴰ·cases-cons, List·Memᴰ·append-cases, Memᴰ·append-left, Memᴰ·append-right}
 use lib.ListN.{length, getD, length-append}
 use lib.Seq.{append-snoc}
 use lib.Dec.{eqb}
@@ -15,21 +15,21 @@ use Rattle.calls.specs.declared.turn.Applied.{Applied}
 use Rattle.calls.specs.Changes.{carriedOut}
 use Rattle.calls.specs.Effects.{effect}
 use Rattle.calls.specs.ListLaws.{Pick, Able, noPick, EveryList}
-use Rattle.calls.specs.Lists.{listOf, listAfter, listCas, Tells, ReadTo}
+use Rattle.calls.specs.Lists.{listOf, listAfter, listCas}
 use Rattle.calls.specs.Lists.Tells.{finds}
 use Rattle.calls.specs.Turns.{Turn, applied, turnsFrom, turns, lastOf, after, last}
 use Rattle.calls.proofs.CallLaws.{permitted-applied}
-use Rattle.calls.proofs.ListSteps.{Entry, Orderly, each-more, Shared, shared-none, list-keeps}
+use Rattle.calls.proofs.ListSteps.{Orderly, each-more, Shared, shared-none, list-keeps}
 use Rattle.calls.proofs.ListingLaws.{shared-whole, list-found, next-space}
 use Rattle.calls.proofs.RunSteps.{next, none-lawful, fresh-space}
 use Rattle.calls.proofs.SumLaws.{after-append}
 use Rattle.calls.proofs.Walks.{turns-behind}
-use Rattle.policy.specs.Listing.{listTemplate, positions}
+use Rattle.policy.specs.Listing.{positions}
 use Rattle.policy.proofs.ListingLaws.{list-rule, nothing-owed}
 use Rattle.space.specs.declared.config.Config.{Config}
 use Rattle.space.specs.declared.space.Space.{Space}
 use Rattle.space.specs.Configs.{sound}
-use Rattle.space.specs.Lists.{listTuple, serialOf, shiftCode}
+use Rattle.space.specs.Lists.{serialOf, shiftCode}
 use Rattle.space.specs.Shapes.{processOf}
 use Rattle.space.specs.Spaces.{held, spaceOf}
 use Rattle.space.proofs.ConfigLaws.{sound-range, has-list-rule}
@@ -37,13 +37,11 @@ use Rattle.space.proofs.SpaceRules.{Lawful, held-of, formed-of, place}
 use Rattle.tuple.specs.declared.fault.Fault.the-variants.{Absent}
 use Rattle.tuple.specs.declared.field.Tuple.{Tuple}
 use Rattle.tuple.specs.declared.field.Call.{Call}
-use Rattle.tuple.specs.declared.matching.Found.the-variants.{At}
 use Rattle.tuple.specs.declared.reply.Outcome.the-variants.{Found}
 use Rattle.tuple.specs.Bounds.{largestCount}
 use Rattle.tuple.specs.Faults.{callFault, usedFault, usesTemplate, usesEntry, partFault, tupleFault, fieldsFault, fieldFault, knownHead, restBlank, restFrom, placeBlank, isBlank}
 use Rattle.tuple.specs.Fields.{rdp, largestOf, blankTuple}
-use Rattle.tuple.specs.Matching.{oldestOf, matches}
-use Rattle.tuple.proofs.MatchRules.{oldest-rule}
+use Rattle.tuple.specs.Forms.{listTuple, listTemplate}
 
 -- ---- filling the list: at each position what is picked, under the position as the serial
 

@@ -1,12 +1,12 @@
 -- An announcement that stands while the positions behind its out are filled, up to one that prefers its process, is listed there or before. From what one
 -- call does.
 use mathlib.Core.Path.{_≡_, refl, sym, ap, _∙_, subst}
-use mathlib.Core.Logic.{_⊎_, inl, inr, ⊎-elim}
+use mathlib.Core.Logic.{_⊎_, ⊎-elim}
 use Prim.Native.Nat.{ℕ, _+_, _-_, _*_, _/_, _%_, _≤_, _<_}
-use native.Mathlib.Nat.{mod-lt, mod-self, mod-eq-of-lt, div-add-mod, mul-add-mod-self-left, mul-suc}
+use native.Mathlib.Nat.{mod-lt, mod-self, mod-eq-of-lt, div-add-mod, mul-add-mod-self-left}
 use native.Mathlib.Omega.{arith}
 use mathlib.Core.Bool.{true}
-use mathlib.Core.List.{List, [], _∷_, _++_, List·Memᴰ, List·Memᴰ·head, List·Memᴰ·append-cases, List·Memᴰ·eq-of-singleton, Memᴰ·append-right}
+use mathlib.Core.List.{List, [], _∷_, _++_, List·Memᴰ, List·Memᴰ·append-cases, List·Memᴰ·eq-of-singleton}
 use lib.ListN.{length, getD, length-append, List·getD-append}
 use lib.Seq.{getD-append-seam}
 use lib.Dec.{ltb, eqb}
@@ -14,7 +14,7 @@ use borrow.Author.Tests.{ltb-true, ltb-false, eqb-true, eqb-false}
 use borrow.Table.Steps.{cases}
 use Rattle.calls.specs.ListLaws.{Standing, ListedWithin, HelpedAt, Helped}
 use Rattle.calls.specs.Lists.{listOf, listAfter, announceOut}
-use Rattle.calls.specs.Turns.{applied, turnsFrom, lastOf, after, last}
+use Rattle.calls.specs.Turns.{turnsFrom, lastOf, after, last}
 use Rattle.calls.proofs.ListSteps.{listed-mem, mem-listed, next-position, Kind, announcement-other, key, apart-differ, Shared, Lists, Grown, Advance, list-advance}
 use Rattle.calls.proofs.ListingLaws.{Left, left}
 use Rattle.calls.proofs.SumLaws.{after-append}
@@ -23,16 +23,17 @@ use Rattle.policy.specs.Listing.{preferred}
 use Rattle.policy.proofs.AnnouncingLaws.{preferred-rule, lists-five, due-rule}
 use Rattle.space.specs.declared.config.Config.{Config}
 use Rattle.space.specs.declared.space.Space.{Space}
-use Rattle.space.specs.Announcements.{isAnnouncement, announcerOf, announcedSerial, announcedCode, announcement, Announcing, Oldest}
+use Rattle.space.specs.Announcements.{isAnnouncement, announcedSerial, Oldest}
 use Rattle.space.specs.Configs.{sound}
-use Rattle.space.specs.Lists.{isListTuple, positionOf, serialOf, shiftCode, Listed}
+use Rattle.space.specs.Lists.{positionOf, serialOf, shiftCode, Listed}
 use Rattle.space.specs.Shapes.{processOf}
 use Rattle.space.specs.Spaces.{held, spaceOf}
-use Rattle.space.proofs.ConfigLaws.{sound-range}
 use Rattle.space.proofs.SpaceRules.{held-of, place, stands}
 use Rattle.tuple.specs.declared.field.Tuple.{Tuple}
 use Rattle.tuple.specs.declared.field.Call.{Call}
 use Rattle.tuple.specs.Fields.{blankTuple}
+use Rattle.tuple.specs.Forms.{announcement}
+use Rattle.tuple.specs.Shapes.{hasShape}
 
 -- one of the entries from the place `from` on, and before the position `end`, is of the process and the serial
 record Within (l : List Tuple) (from end process serial : ℕ) : Type 0 where
@@ -146,7 +147,7 @@ module _ (config : Config) (safe : sound config ≡ true) (five : config .policy
 
 announcement-shape : {config : Config} {process serial code : ℕ} → Kind config (announcement process serial code)
     → (isAnnouncement (announcement process serial code) ≡ true) × (1 ≤ process) × (process ≤ config .n)
-unfolding isListTuple
+unfolding hasShape
 announcement-shape (Kind.in-list shape first most) = let z : _≡_ {A = ℕ} 0 1 = cc in absurd (omega arith)
 announcement-shape (Kind.waits five shape some few) = (shape, some, few)
 

@@ -26,21 +26,21 @@ use Rattle.calls.proofs.SumLaws.{after-append}
 use Rattle.calls.proofs.Walks.{kept-after, turns-behind}
 use Rattle.policy.specs.Laws.{ListCall, Helps, Alone}
 use Rattle.policy.specs.Laws.Denial.{denied}
-use Rattle.policy.specs.Listing.{isListTemplate, listTemplate, positions, preferred, owed, isDue, isListCall, isNew, begins, follows, mayList, shared}
+use Rattle.policy.specs.Listing.{positions, preferred, owed, isDue, isListCall, isNew, begins, follows, mayList, shared}
 use Rattle.policy.proofs.AnnouncingLaws.{lists-five, announce-rule, due-rule}
 use Rattle.policy.proofs.ListingLaws.{list-template, list-match, match-list, cas-permitted, nothing-owed, list-denied}
 use Rattle.policy.proofs.PolicyLaws.{under-shared}
 use Rattle.space.specs.declared.config.Config.{Config}
 use Rattle.space.specs.declared.space.Space.{Space}
-use Rattle.space.specs.Announcements.{isAnnouncement, announcerOf, announcement, Announcing, Oldest}
+use Rattle.space.specs.Announcements.{isAnnouncement, announcerOf, Announcing, Oldest}
 use Rattle.space.specs.Configs.{sound, hasList}
-use Rattle.space.specs.Lists.{isListTuple, listTuple, positionOf, serialOf, shiftCode, lists, isThere, isFilled, isListed, Filled, Listed}
+use Rattle.space.specs.Lists.{isListTuple, positionOf, serialOf, shiftCode, lists, isThere, isFilled, isListed, Filled, Listed}
 use Rattle.space.specs.Shapes.{processOf}
 use Rattle.space.specs.Spaces.{held, spaceOf, wellFormed}
 use Rattle.space.proofs.AnnouncementLaws.{announcement-parts, announcement-rule}
 use Rattle.space.proofs.ConfigLaws.{sound-range, has-list-rule}
 use Rattle.space.proofs.ListLaws.{list-tuple}
-use Rattle.space.proofs.SpaceRules.{Lawful, held-of, formed-of, stands, place}
+use Rattle.space.proofs.SpaceRules.{Lawful, held-of, formed-of, stands}
 use Rattle.tuple.specs.declared.fault.Fault.the-variants.{Absent}
 use Rattle.tuple.specs.declared.field.Tuple.{Tuple}
 use Rattle.tuple.specs.declared.field.Call.{Call}
@@ -49,11 +49,12 @@ use Rattle.tuple.specs.declared.reply.Outcome.the-variants.{Done, Inserted, Ref
 use Rattle.tuple.specs.declared.reply.Reply.{Reply}
 use Rattle.tuple.specs.Bounds.{capacity, largestCount, largestCode}
 use Rattle.tuple.specs.Faults.{callFault, usedFault, usesTemplate, usesEntry, partFault, tupleFault, fieldsFault, fieldFault, knownHead, restBlank, restFrom, placeBlank, isBlank}
-use Rattle.tuple.specs.Fields.{cas, count, offset, largestOf, blankTuple}
+use Rattle.tuple.specs.Fields.{count, offset, largestOf, blankTuple}
+use Rattle.tuple.specs.Forms.{listTuple, announcement, listTemplate}
 use Rattle.tuple.specs.Matching.{oldestOf, matches}
 use Rattle.tuple.specs.Offsets.{bottom}
 use Rattle.tuple.specs.Refusals.{refusal}
-use Rattle.tuple.specs.Shapes.{is}
+use Rattle.tuple.specs.Shapes.{is, hasShape}
 use Rattle.tuple.proofs.MatchRules.{oldest-rule}
 use Rattle.tuple.proofs.NoFault.{entry-small}
 
@@ -384,7 +385,7 @@ taken-rule config calls process position serial code safe is-four first filled o
     }
 
 pub handed-ins : HandedIns
-unfolding shared mayList isListCall isListTemplate isListTuple isNew begins follows isDue owed isListed isFilled isThere lists
+unfolding shared mayList isListCall hasShape isNew begins follows isDue owed isListed isFilled isThere lists
 handed-ins config is-four =
     let tuples = listTuple 1 1 1 81 ∷ listTuple 3 9 1 0 ∷ [] in
     let shares = has-list-rule config .1 (inl is-four) in

@@ -1,7 +1,7 @@
 -- What policies 4 and 5 make of every list of calls from a fresh space, and policy 4 of a space handed in (`HandedIns`), as claims over the definitions, in
 -- document 02's words.
 use mathlib.Core.Path.{_≡_}
-use mathlib.Core.Bool.{true, false}
+use mathlib.Core.Bool.{true}
 use mathlib.Core.Logic.{_↔_, _⊎_}
 use mathlib.Core.List.{List, [], _∷_, _++_, List·Memᴰ}
 use Prim.Native.Nat.{ℕ, _+_, _-_, _≤_, _<_}
@@ -13,9 +13,9 @@ use Rattle.policy.specs.declared.verdicts.Verdict.the-variants.{Permit, Refuse}
 use Rattle.policy.specs.Listing.{preferred}
 use Rattle.policy.specs.Policies.{verdictOn}
 use Rattle.space.specs.declared.config.Config.{Config}
-use Rattle.space.specs.Announcements.{isAnnouncement, announcerOf, announcement, Announcing, Oldest}
+use Rattle.space.specs.Announcements.{isAnnouncement, announcerOf, Announcing, Oldest}
 use Rattle.space.specs.Configs.{sound, hasList}
-use Rattle.space.specs.Lists.{isListTuple, listTuple, positionOf, serialOf, shiftCode, Listed}
+use Rattle.space.specs.Lists.{isListTuple, positionOf, serialOf, shiftCode, Listed}
 use Rattle.space.specs.Shapes.{processOf}
 use Rattle.space.specs.Spaces.{held}
 use Rattle.tuple.specs.declared.field.Tuple.{Tuple}
@@ -23,6 +23,7 @@ use Rattle.tuple.specs.declared.field.Call.{Call}
 use Rattle.tuple.specs.declared.reply.Outcome.the-variants.{Done, Found, Inserted, Held, Refused}
 use Rattle.tuple.specs.declared.offset.Offset.the-variants.{Hundredths}
 use Rattle.tuple.specs.Fields.{blankTuple}
+use Rattle.tuple.specs.Forms.{listTuple, announcement}
 use Rattle.tuple.specs.Offsets.{codeOf}
 use Rattle.tuple.specs.Refusals.{refusal}
 

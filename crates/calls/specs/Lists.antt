@@ -7,10 +7,9 @@ use mathlib.Core.List.{List, [], _∷_, _++_, List·Memᴰ}
 use lib.ListN.{length, getD}
 use lib.IntN.{ℤ, pos, _+ℤ_}
 use Rattle.calls.specs.Turns.{Turn, applied, turns, last}
-use Rattle.policy.specs.Listing.{listTemplate}
 use Rattle.space.specs.declared.config.Config.{Config}
-use Rattle.space.specs.Announcements.{announcement, Oldest}
-use Rattle.space.specs.Lists.{isListTuple, listTuple, positionOf, serialOf, shiftCode}
+use Rattle.space.specs.Announcements.{Oldest}
+use Rattle.space.specs.Lists.{isListTuple, positionOf, serialOf, shiftCode}
 use Rattle.space.specs.Shapes.{processOf}
 use Rattle.space.specs.Spaces.{held}
 use Rattle.tuple.specs.declared.field.Tuple.{Tuple}
@@ -19,6 +18,7 @@ use Rattle.tuple.specs.declared.offset.Offset.{Offset}
 use Rattle.tuple.specs.declared.offset.Offset.the-variants.{Bottom, Hundredths}
 use Rattle.tuple.specs.declared.reply.Outcome.the-variants.{Found, Inserted, Held}
 use Rattle.tuple.specs.Fields.{out, cas, blankTuple}
+use Rattle.tuple.specs.Forms.{listTuple, announcement, listTemplate}
 use Rattle.tuple.specs.Offsets.{offsetOf}
 
 -- ---- the list

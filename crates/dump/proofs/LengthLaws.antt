@@ -14,7 +14,7 @@ use Rattle.dump.specs.Laws.{Appends}
 use Rattle.dump.proofs.ByteLaws.{Sound}
 use Rattle.dump.proofs.Templates.{template-faultless}
 use Rattle.policy.specs.Listing.{isListTemplate, positions}
-use Rattle.policy.specs.Shapes.{isWeakTemplate, isWeakEntry, isDecisionTemplate}
+use Rattle.policy.specs.Shapes.{isWeakTemplate, isDecisionTemplate}
 use Rattle.policy.proofs.DecisionLaws.{decision-parts}
 use Rattle.policy.proofs.ListingLaws.{template-parts}
 use Rattle.record.specs.Heads.{headNumber}
@@ -36,9 +36,11 @@ use Rattle.tuple.specs.declared.field.Call.{Call}
 use Rattle.tuple.specs.Bounds.{places, largestCount, largestCode}
 use Rattle.tuple.specs.Faults.{isDefined, fieldsFault, tupleFault, partFault, usesTemplate, usesEntry, callFault}
 use Rattle.tuple.specs.Fields.{word, count, offset, processSet, defined, wildcard, formal, decision, listing, out, cas, largestOf, blankField}
-use Rattle.tuple.specs.Shapes.{field, is, says}
+use Rattle.tuple.specs.Forms.{weakEntryShape}
+use Rattle.tuple.specs.Shapes.{field, is, says, hasShape}
 use Rattle.tuple.proofs.FieldLaws.{kind-state}
 use Rattle.tuple.proofs.NoFault.{PassedField, fields-sound, tuple-sound, call-sound}
+use Rattle.tuple.proofs.ShapeLaws.{shape-count}
 use Rattle.varint.specs.Writing.{bytesOf, widthOf}
 use Rattle.varint.proofs.WritingLaws.{bytes-last, bytes-step}
 
@@ -125,10 +127,6 @@ counted-most n tuple counted few h =
       length-take (tuple .count) (tuple .fields),
     )
 
-weak-count : (tuple : Tuple) → isWeakEntry tuple ≡ true → tuple .count ≡ 3
-unfolding isWeakEntry
-weak-count tuple shape = eqb-true _ _ (four (eqb (tuple .count) 3) _ _ _ shape .0)
-
 -- the fields of a tuple, one by one: how many bytes are left from the place i on
 module _ (tuple : Tuple) (long : length (tuple .fields) ≡ places) (few : tuple .count ≤ places) where
   abbrev pub left : ℕ → ℕ
@@ -152,7 +150,7 @@ module _ (template : Tuple) (long : length (template .fields) ≡ places) (h : t
   round-most below = field-most (sound-at false (template .count) (template .fields) 1 (tuple-sound false template h .fields) below (omega arith))
 
   weak-most : isWeakTemplate template ≡ true → length (tupleBytes template) ≤ 10
-  unfolding isWeakTemplate
+  unfolding hasShape
   weak-most shape =
       let parts = four (eqb (template .count) 3) (says word decision (field template 0)) (is count defined (field template 1)) _ shape in
       let counted : template .count ≡ 3 = eqb-true _ _ (parts .0) in
@@ -170,7 +168,7 @@ module _ (template : Tuple) (long : length (template .fields) ≡ places) (h : t
       )
 
   decision-most : isDecisionTemplate template ≡ true → length (tupleBytes template) ≤ 11
-  unfolding isDecisionTemplate
+  unfolding hasShape
   decision-most shape =
       let last = and-eq-true-iff _ (is processSet wildcard (field template 3)) .0 shape in
       let parts = four (eqb (template .count) 4) (says word decision (field template 0)) (is count defined (field template 1)) _ (last .0) in
@@ -289,7 +287,7 @@ module _ (config : Config) (tuple : Tuple) (call : Call) (sound : Sound call) (s
       let entry = counted-most 4 (call .entry) counted (omega arith) (entry-faultless call (sound .faultless) (inl (by .code))) in
       omega (arith, deciding-most config (proposals-deciding config rests), out-length call short (by .code))
   record-most (Appends.weak one shape by) =
-      let counted : call .entry .count ≡ 3 = ap (λ (t : Tuple). t .count) (by .entry) ∙ weak-count tuple shape in
+      let counted : call .entry .count ≡ 3 = ap (λ (t : Tuple). t .count) (by .entry) ∙ shape-count weakEntryShape tuple shape in
       let entry = counted-most 3 (call .entry) counted (omega arith) (entry-faultless call (sound .faultless) (inr (by .code))) in
       let template = weak-most (call .template) (sound .typed .template) (template-faultless call (sound .faultless) (by .code)) (by .template) in
       omega (arith, deciding-most config (omega arith, omega arith), cas-length call short (by .code))

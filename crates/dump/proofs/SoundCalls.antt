@@ -6,7 +6,7 @@ use native.Mathlib.Nat.{le-trans, mul-le-mul-left}
 use mathlib.Core.Logic.{inl, ⊎-elim}
 use mathlib.Core.Bool.{true}
 use mathlib.Core.List.{List, [], _∷_, map, List·Memᴰ, List·Memᴰ·head, List·Memᴰ·tail, List·Memᴰ·not-nil, List·Memᴰ·cases-cons}
-use lib.ListN.{length, getD, length-append, length-map, length-set, length-take}
+use lib.ListN.{length, getD, length-append, length-map, length-take}
 use lib.Dec.{eqb}
 use borrow.Table.Steps.{cases}
 use Rattle.dump.specs.Dumps.{dumpCalls, dumpBytes, dumpMost, isReached}
@@ -49,9 +49,9 @@ unfolding ownProcess known
 own-few config tuple =
     cases (known config (processOf tuple)) (λ e. rw e (between 1 (processOf tuple) (config .n) e .1)) (λ e. rw e (omega arith))
 
-template-six : (tuple : Tuple) → length (tuple .fields) ≡ places → length (templateOf tuple .fields) ≡ places
+template-six : (tuple : Tuple) → length (templateOf tuple .fields) ≡ places
 unfolding templateOf
-template-six tuple six = cases (eqb (tuple .count) 4) (λ e. rw e (simp (length-set, six))) (λ e. rw e (simp (length-set, six)))
+template-six tuple = cases (eqb (tuple .count) 4) (λ e. rw e) (λ e. rw e)
 
 call-typed : (config : Config) → sound config ≡ true → (tuple : Tuple) → length (tuple .fields) ≡ places → Typed (callOf config tuple)
 unfolding callOf
@@ -61,7 +61,7 @@ call-typed config safe tuple six =
     (λ e. cases (eqb (config .policy) 4) (λ f. rw (e, f) (record { process = omega (arith, own-few config tuple); template = refl; entry = six }))
     (λ f. cases (isProposal tuple)
     (λ p. rw (e, f, p) (record { process = omega (arith, own-few config tuple); template = refl; entry = six }))
-    (λ p. rw (e, f, p) (record { process = omega arith; template = template-six tuple six; entry = six }))))
+    (λ p. rw (e, f, p) (record { process = omega arith; template = template-six tuple; entry = six }))))
 
 -- ---- the calls
 

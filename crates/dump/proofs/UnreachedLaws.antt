@@ -15,7 +15,7 @@ use Rattle.dump.specs.Laws.{UnreachedRule}
 use Rattle.dump.specs.Appending.{processOne, outBy, casBy, ownProcess, templateOf, callOf}
 use Rattle.dump.proofs.AnswerLaws.{refused-unreached}
 use Rattle.dump.proofs.ReachLaws.{Entered, entered, Under, under, call-entry, call-bare, call-proposal, call-decision, list-entered, rebuilt}
-use Rattle.dump.proofs.Templates.{template-rest, entry-rest, weak-template, decision-template}
+use Rattle.dump.proofs.Templates.{template-rest, weak-template, decision-template}
 use Rattle.dump.proofs.TypedCalls.{typed-calls}
 use Rattle.calls.specs.declared.change.Change.{Change}
 use Rattle.calls.specs.declared.turn.Applied.{Applied}
@@ -27,11 +27,9 @@ use Rattle.calls.proofs.Effects.{no-inp}
 use Rattle.calls.proofs.RunSteps.{fresh-space, none-lawful, fresh-run, after-run}
 use Rattle.policy.specs.declared.verdicts.Verdict.the-variants.{Permit}
 use Rattle.policy.specs.Justified.{isDecisionCall, casVerdict, justified}
-use Rattle.policy.specs.Listing.{listTemplate}
 use Rattle.policy.specs.Policies.{verdictOn, verdict}
 use Rattle.policy.specs.Weak.{isWeakCall, weak}
 use Rattle.policy.proofs.DecisionLaws.{no-proposal}
-use Rattle.policy.proofs.ListingLaws.{list-template-made}
 use Rattle.policy.proofs.PolicyLaws.{bare-rule, weak-rule, out-rule, decision-call}
 use Rattle.record.specs.Writing.{Typed}
 use Rattle.script.proofs.RunLaws.{run-rules}
@@ -52,9 +50,11 @@ use Rattle.tuple.specs.declared.reply.Outcome.the-variants as outcome
 use Rattle.tuple.specs.Bounds.{capacity}
 use Rattle.tuple.specs.Faults.{isAbsent, tupleFault, partFault, usesTemplate, usesEntry, usedFault, isBlank, placeBlank, restFrom, restBlank, callFault, isEntry}
 use Rattle.tuple.specs.Fields.{out, cas, blankTuple}
+use Rattle.tuple.specs.Forms.{listTemplate}
 use Rattle.tuple.specs.Matching.{oldestOf}
 use Rattle.tuple.proofs.Blanks.{blank-tuple}
 use Rattle.tuple.proofs.NoFault.{absent, call-sound}
+use Rattle.tuple.proofs.ShapeLaws.{forms-made}
 
 -- ---- a call that is obeyed
 
@@ -91,16 +91,15 @@ module _ (config : Config) (tuples : List Tuple) (call : Call) (typed : Typed ca
     cas-again : call .code ≡ cas → (isProposal (call .entry) ≡ false) × (call .template ≡ templateOf (call .entry))
     cas-again e =
         let template = template-rest call (put .faultless) e in
-        let entry = entry-rest call (put .faultless) e in
         cases (eqb (config .policy) 1)
         (λ one. let weak = weak-rule config tuples call (eqb-true (config .policy) 1 one) .0 (put .permitted) in (
           no-proposal config (call .entry) (rw one (weak .entry)),
-          weak-template (call .template) (call .entry) (typed .template) (typed .entry) template entry (weak .same) (weak .template) (weak .entry),
+          weak-template (call .template) (call .entry) (typed .template) template (weak .same) (weak .template) (weak .entry),
         ))
         (λ one. let rests = deciding-proposals config decides (eqb-false (config .policy) 1 one) in
         let shaped = decision-call config tuples call rests e (put .permitted) in (
           no-proposal config (call .entry) (rw one (shaped .entry)),
-          decision-template (call .template) (call .entry) (typed .template) (typed .entry) template entry (shaped .same) (shaped .template) (shaped .entry),
+          decision-template (call .template) (call .entry) (typed .template) template (shaped .same) (shaped .template) (shaped .entry),
         ))
 
   -- under policy 4 the call is the own call of its entry, part by part
@@ -109,7 +108,7 @@ module _ (config : Config) (tuples : List Tuple) (call : Call) (typed : Typed ca
   list-again is-four =
       let made = list-entered config is-four tuples call put in
       let asked : call .template ≡ listTemplate (positionOf (call .entry)) =
-      list-template-made (call .template) (template-rest call (put .faultless) (made .0)) (typed .template) .0
+      forms-made .list-template (call .template) (typed .template) (template-rest call (put .faultless) (made .0)) .0
       (made .1 .template) ∙ ap listTemplate (made .1 .same) in
       let other = ne-eqb (config .policy) 0 (λ none. omega arith) in
       let four = eq-eqb (config .policy) 4 is-four in

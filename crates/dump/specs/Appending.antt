@@ -3,18 +3,15 @@
 -- call that the policy never permits.
 use Prim.Native.Nat.{ℕ}
 use mathlib.Core.Bool.{cond}
-use mathlib.Core.List.{List}
-use lib.ListN.{set}
 use lib.Dec.{eqb}
-use Rattle.policy.specs.Listing.{listTemplate}
 use Rattle.space.specs.declared.config.Config.{Config}
 use Rattle.space.specs.Configs.{known}
 use Rattle.space.specs.Lists.{positionOf}
-use Rattle.space.specs.Shapes.{isProposal, processOf}
-use Rattle.tuple.specs.declared.field.Field.{Field}
+use Rattle.space.specs.Shapes.{roundOf, isProposal, processOf}
 use Rattle.tuple.specs.declared.field.Tuple.{Tuple}
 use Rattle.tuple.specs.declared.field.Call.{Call}
-use Rattle.tuple.specs.Fields.{offset, processSet, wildcard, formal, out, cas, blankTuple}
+use Rattle.tuple.specs.Fields.{out, cas, blankTuple}
+use Rattle.tuple.specs.Forms.{weakTemplate, decisionTemplate, listTemplate}
 
 -- the process that appends what has no process of its own
 abbrev pub processOne : ℕ
@@ -34,19 +31,9 @@ ownProcess config tuple = cond (known config (processOf tuple)) (processOf tuple
 
 -- ---- a decision
 
-abbrev pub openOffset : Field
-openOffset = record { kind = offset; state = formal; value = 0 }
-
-abbrev pub anySet : Field
-anySet = record { kind = processSet; state = wildcard; value = 0 }
-
--- the set of a decision of four fields is any; one of three has none
-abbrev pub withAnySet : ℕ → List Field → List Field
-withAnySet count fields = cond (eqb count 4) (set fields 3 anySet) fields
-
--- the template of a decision's round: the decision with its offset open and its set any
+-- the template of a decision's round: its offset is open and, in a decision of four fields, its set any; one of three has none
 unfoldable pub templateOf : Tuple → Tuple
-templateOf tuple = record { count = tuple .count; fields = withAnySet (tuple .count) (set (tuple .fields) 2 openOffset) }
+templateOf tuple = cond (eqb (tuple .count) 4) (decisionTemplate (roundOf tuple)) (weakTemplate (roundOf tuple))
 
 -- ---- by the policy
 

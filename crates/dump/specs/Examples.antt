@@ -10,30 +10,10 @@ use Rattle.dump.specs.Laws.{EndsIn}
 use Rattle.record.specs.declared.writer.Recorded.{Recorded}
 use Rattle.record.specs.declared.writer.Recorded.the-variants.{Length, Unwritten}
 use Rattle.space.specs.declared.space.Space.{Space}
-use Rattle.space.specs.Announcements.{announcement}
-use Rattle.space.specs.Lists.{listTuple}
 use Rattle.space.specs.Spaces.{spaceOf}
 use Rattle.tuple.specs.declared.field.Tuple.{Tuple}
-use Rattle.tuple.specs.Fields.{word, count, offset, processSet, propose, decision, blankField}
+use Rattle.tuple.specs.Forms.{proposal, weakEntry, decisionEntry, listTuple, announcement}
 use Rattle.tuple.specs.Refusals.{refusal}
-use Rattle.tuple.specs.Shapes.{given}
-
--- ---- tuples
-
--- (word 1, count round, count process, offset of this code)
-abbrev pub proposal : ℕ → ℕ → ℕ → Tuple
-proposal round process code =
-    record { count = 4; fields = given word propose ∷ given count round ∷ given count process ∷ given offset code ∷ blankField ∷ blankField ∷ [] }
-
--- (word 2, count round, offset of this code, processes)
-abbrev pub decisionEntry : ℕ → ℕ → ℕ → Tuple
-decisionEntry round code set =
-    record { count = 4; fields = given word decision ∷ given count round ∷ given offset code ∷ given processSet set ∷ blankField ∷ blankField ∷ [] }
-
--- (word 2, count round, offset of this code)
-abbrev pub weakEntry : ℕ → ℕ → Tuple
-weakEntry round code =
-    record { count = 3; fields = given word decision ∷ given count round ∷ given offset code ∷ blankField ∷ blankField ∷ blankField ∷ [] }
 
 -- ---- spaces: four processes, one of which may be faulty, and under policy 3 two choices
 

@@ -2,25 +2,19 @@
 ghost use mathlib.Core.Path.{_≡_};
 ghost use mathlib.Core.Bool.{true};
 ghost use Rattle.dump.specs.Appending.{outBy, casBy, ownProcess, templateOf, callOf};
-ghost use Rattle.policy.specs.Listing.{listTemplate};
 ghost use Rattle.space.specs.Configs.{sound};
 ghost use Rattle.space.specs.Lists.{positionOf};
-ghost use Rattle.tuple.specs.Fields.{defined};
+ghost use Rattle.tuple.specs.Forms.{listTemplate};
 use space::Config;
 use space::is_proposal;
 use tuple::CAS;
-use tuple::COUNT;
 use tuple::Call;
-use tuple::DEFINED;
-use tuple::FORMAL;
-use tuple::Field;
-use tuple::LISTING;
-use tuple::OFFSET;
+use tuple::DECISION_TEMPLATE;
+use tuple::LIST_TEMPLATE;
 use tuple::OUT;
-use tuple::PROCESS_SET;
 use tuple::Tuple;
-use tuple::WILDCARD;
-use tuple::WORD;
+use tuple::WEAK_TEMPLATE;
+use tuple::make;
 
 // The process that appends what has no process of its own.
 const PROCESS_ONE: u32 = 1;
@@ -80,49 +74,23 @@ fn own_process(config: Config, tuple: Tuple) -> u32
     }
 }
 
-// The template of a decision's round: the decision with its offset open and its set, if it has one, any.
+// The template of a decision's round: its offset is open and, if the decision has a set, its set any.
 fn template_of(tuple: Tuple) -> Tuple
     ensures { λ r. ⌜ r ≡ templateOf tuple ⌝ }
 {
-    let mut template = tuple;
-    template.fields[2] = undefined(OFFSET, FORMAL);
+    let second = tuple.fields[1];
+    let round = second.value;
     if tuple.count == 4 {
-        template.fields[3] = undefined(PROCESS_SET, WILDCARD);
+        make(DECISION_TEMPLATE, round, 0, 0, 0)
+    } else {
+        make(WEAK_TEMPLATE, round, 0, 0, 0)
     }
-    template
 }
 
-// The template of a list tuple's position: the word and the position, two counts of state any, and an open offset.
+// The template of a list tuple's position.
 fn list_template(tuple: Tuple) -> Tuple
     ensures { λ r. ⌜ r ≡ listTemplate (positionOf tuple) ⌝ }
 {
     let second = tuple.fields[1];
-    let mut template = Tuple::blank();
-    template.count = 5;
-    template.fields[0] = given(WORD, LISTING);
-    template.fields[1] = given(COUNT, second.value);
-    template.fields[2] = undefined(COUNT, WILDCARD);
-    template.fields[3] = undefined(COUNT, WILDCARD);
-    template.fields[4] = undefined(OFFSET, FORMAL);
-    template
-}
-
-fn given(kind: u32, value: u64) -> Field
-    ensures { λ r. ⌜ r ≡ record { kind = kind; state = defined; value = value } ⌝ }
-{
-    Field {
-        kind,
-        state: DEFINED,
-        value,
-    }
-}
-
-fn undefined(kind: u32, state: u32) -> Field
-    ensures { λ r. ⌜ r ≡ record { kind = kind; state = state; value = 0 } ⌝ }
-{
-    Field {
-        kind,
-        state,
-        value: 0,
-    }
+    make(LIST_TEMPLATE, second.value, 0, 0, 0)
 }

@@ -10,14 +10,13 @@ use crate::taking::hand;
 use crate::taking::take_turn;
 use crate::tuples::any_word;
 use crate::tuples::asking;
+use crate::tuples::asking_weak;
 use crate::tuples::pair;
 use crate::tuples::proposal;
 use crate::tuples::weak;
 use crate::tuples::words;
 use space::Space;
 use tuple::CAS;
-use tuple::DEFINED;
-use tuple::FORMAL;
 use tuple::OFFSET;
 use tuple::OUT;
 use tuple::Offset;
@@ -137,9 +136,9 @@ pub(crate) fn weak_bottom() {
         weak offset\n\
         weak bottom, decided\n\
         weak offset, bottom decided";
-    let asked = weak(FORMAL, 0);
-    let bottom = weak(DEFINED, 0);
-    let offset = weak(DEFINED, 80);
+    let asked = asking_weak();
+    let bottom = weak(0);
+    let offset = weak(80);
     let mut board = make(labels, 1, open(4, 1, 1), 1, CAS, asked, bottom);
     board = make(labels, 2, board, 1, CAS, asked, offset);
     board = make(labels, 3, board, 2, CAS, asked, bottom);

@@ -1,78 +1,44 @@
 // The tuples of the cases. Proposals and decisions are of round 0, with the offset by its code.
-use tuple::COUNT;
-use tuple::DECISION;
+use tuple::DECISION_ENTRY;
+use tuple::DECISION_TEMPLATE;
 use tuple::DEFINED;
 use tuple::FIELDS;
-use tuple::FORMAL;
 use tuple::Field;
-use tuple::OFFSET;
-use tuple::PROCESS_SET;
-use tuple::PROPOSE;
+use tuple::PROPOSAL;
 use tuple::Tuple;
+use tuple::WEAK_ENTRY;
+use tuple::WEAK_TEMPLATE;
 use tuple::WILDCARD;
 use tuple::WORD;
+use tuple::make;
 
 fn field(kind: u32, state: u32, value: u64) -> Field {
     Field { kind, state, value }
 }
 
-// (word, count 0, and two fields more)
-fn four(word: u64, c: Field, d: Field) -> Tuple {
-    let blank = Field::blank();
-    Tuple {
-        count: 4,
-        fields: [
-            field(WORD, DEFINED, word),
-            field(COUNT, DEFINED, 0),
-            c,
-            d,
-            blank,
-            blank,
-        ],
-    }
-}
-
 // (word 1, count 0, count process, offset)
 pub(crate) fn proposal(process: u64, code: u64) -> Tuple {
-    four(
-        PROPOSE,
-        field(COUNT, DEFINED, process),
-        field(OFFSET, DEFINED, code),
-    )
+    make(PROPOSAL, 0, process, code, 0)
 }
 
 // (word 2, count 0, offset, processes)
 pub(crate) fn decision(code: u64, set: u64) -> Tuple {
-    four(
-        DECISION,
-        field(OFFSET, DEFINED, code),
-        field(PROCESS_SET, DEFINED, set),
-    )
+    make(DECISION_ENTRY, 0, code, set, 0)
 }
 
 // (word 2, count 0, open offset, any processes)
 pub(crate) fn asking() -> Tuple {
-    four(
-        DECISION,
-        field(OFFSET, FORMAL, 0),
-        field(PROCESS_SET, WILDCARD, 0),
-    )
+    make(DECISION_TEMPLATE, 0, 0, 0, 0)
 }
 
-// (word 2, count 0, offset), the offset by its code or open
-pub(crate) fn weak(state: u32, code: u64) -> Tuple {
-    let blank = Field::blank();
-    Tuple {
-        count: 3,
-        fields: [
-            field(WORD, DEFINED, DECISION),
-            field(COUNT, DEFINED, 0),
-            field(OFFSET, state, code),
-            blank,
-            blank,
-            blank,
-        ],
-    }
+// (word 2, count 0, offset)
+pub(crate) fn weak(code: u64) -> Tuple {
+    make(WEAK_ENTRY, 0, code, 0, 0)
+}
+
+// (word 2, count 0, open offset)
+pub(crate) fn asking_weak() -> Tuple {
+    make(WEAK_TEMPLATE, 0, 0, 0, 0)
 }
 
 // (word 7, and one field more)

@@ -1,7 +1,7 @@
 -- Policy 5 permits exactly what the words of document 02 say of out, inp and cas. From the definitions of policies and the laws of lists and announcements.
 use mathlib.Core.Path.{_≡_, refl, sym, ap, _∙_}
 use mathlib.Core.Logic.{_↔_, _⊎_, inl, inr, ⊎-elim}
-use mathlib.Core.Bool.{Bool, true, false, false≢true, _&&_, _||_, or-true, and-eq-true-iff}
+use mathlib.Core.Bool.{true, false, false≢true, _&&_, and-eq-true-iff}
 use mathlib.Core.List.{List}
 use Prim.Native.Nat.{ℕ, _%_}
 use native.Mathlib.Omega.{arith}
@@ -9,17 +9,16 @@ use lib.Dec.{eqb}
 use borrow.Author.Tests.{eqb-true, eq-eqb, ne-eqb}
 use borrow.Table.Steps.{cases}
 use Rattle.policy.specs.declared.verdicts.Verdict.the-variants.{Permit}
-use Rattle.policy.specs.Laws.{PreferredRule, OwnAnnouncement, AnnounceRule, TakesOff, TakeOffRule, ListCall, Helps, Alone, HelpRule, AnnouncingOnly}
-use Rattle.policy.specs.Listing.{preferred, waiting, owed, isOwn, isDueBy, isDue, isSilent, mayAnnounce, isUndefined, mayTakeOff, shared}
-use Rattle.policy.specs.Policies.{verdictOn}
+use Rattle.policy.specs.Laws.{PreferredRule, AnnounceRule, TakeOffRule, ListCall, Helps, Alone, HelpRule, AnnouncingOnly}
+use Rattle.policy.specs.Listing.{preferred, waiting, owed, isOwn, isDueBy, isDue, isSilent, mayAnnounce, mayTakeOff, shared}
 use Rattle.policy.proofs.ListingLaws.{cas-permitted}
 use Rattle.policy.proofs.PolicyLaws.{demanded, under-shared}
 use Rattle.space.specs.declared.announcement.Announced.{Announced}
 use Rattle.space.specs.declared.announcement.Announced.the-variants.{Waits, Silent}
 use Rattle.space.specs.declared.config.Config.{Config}
-use Rattle.space.specs.Announcements.{isAnnouncement, announcerOf, announcedOf, Announcing, Oldest}
+use Rattle.space.specs.Announcements.{isAnnouncement, announcerOf, announcedOf, Announcing}
 use Rattle.space.specs.Configs.{hasList}
-use Rattle.space.specs.Lists.{positionOf, serialOf, shiftCode, isListed, Listed}
+use Rattle.space.specs.Lists.{positionOf, serialOf, shiftCode, isListed}
 use Rattle.space.specs.Shapes.{processOf}
 use Rattle.space.proofs.AnnouncementLaws.{announced-rules}
 use Rattle.space.proofs.ConfigLaws.{has-list-rule}
@@ -28,10 +27,10 @@ use Rattle.space.proofs.ShapeLaws.{four}
 use Rattle.tuple.specs.declared.field.Field.{Field}
 use Rattle.tuple.specs.declared.field.Tuple.{Tuple}
 use Rattle.tuple.specs.declared.field.Call.{Call}
-use Rattle.tuple.specs.Fields.{word, count, offset, wildcard, formal, out, rdp, inp, cas, announcing}
+use Rattle.tuple.specs.Fields.{out, rdp, inp, cas}
 use Rattle.tuple.specs.Refusals.{refusal}
-use Rattle.tuple.specs.Shapes.{field, is, says}
-use Rattle.tuple.proofs.FieldLaws.{kind-state, field-says}
+use Rattle.tuple.specs.ShapeLaws.{part, TakenOff}
+use Rattle.tuple.proofs.ShapeLaws.{forms-made}
 
 pub preferred-rule : PreferredRule
 unfolding preferred
@@ -64,20 +63,11 @@ announce-rule config tuples call five e =
 
 -- ---- inp
 
-undefined-rule : (kind : ℕ) (f : Field) → (isUndefined kind f ≡ true) ↔ ((f .kind ≡ kind) × ((f .state ≡ wildcard) ⊎ (f .state ≡ formal)))
-undefined-rule kind f = (
-  λ h. cases (is kind wildcard f)
-      (λ e. let head = kind-state kind wildcard f e in (head .0, inl (head .1)))
-      (λ e. let head = kind-state kind formal f (rw e at h) in (head .0, inr (head .1))),
-  λ p. let kinds = eq-eqb (f .kind) kind (p .0) in ⊎-elim (λ any. rw (kinds, eq-eqb (f .state) wildcard any)) (λ unset. rw (kinds, ne-eqb (f .state) wildcard (λ any. omega arith), eq-eqb (f .state) formal unset)) (p .1),
-)
-
 pub take-off-rule : TakeOffRule
 unfolding shared mayTakeOff
 take-off-rule config tuples call five e =
     let template = call .template in
-    let third = undefined-rule count (field template 2) in
-    let fourth = undefined-rule offset (field template 3) in
+    let shape = forms-made .announcement-template template in
     rw (
       under-shared config tuples call (lists-five config five),
       ne-eqb (call .code) rdp (λ z. omega arith),
@@ -85,18 +75,18 @@ take-off-rule config tuples call five e =
       ne-eqb (call .code) out (λ z. omega arith),
       eq-eqb (call .code) inp e,
     ) (
-      λ h.
-          let last = and-eq-true-iff _ (isUndefined offset (field template 3)) .0 (demanded (mayTakeOff config call) (refusal 7) Permit h .0) in
-          let before = and-eq-true-iff _ (isUndefined count (field template 2)) .0 (last .0) in
-          let front = four (eqb (config .policy) 5) (eqb (template .count) 4) (says word announcing (field template 0)) (says count (call .process) (field template 1)) (before .0) in
+      λ h. let own = and-eq-true-iff _ (eqb (announcerOf template) (call .process)) .0 (demanded (mayTakeOff config call) (refusal 7) Permit h .0) in
+          let taken = shape .0 (and-eq-true-iff (eqb (config .policy) 5) _ .0 (own .0) .1) in
           record {
-            four = eqb-true _ _ (front .1);
-            first = field-says word announcing (field template 0) (front .2);
-            second = field-says count (call .process) (field template 1) (front .3);
-            third = third .0 (before .1);
-            fourth = fourth .0 (last .1);
+            four = taken .four;
+            first = taken .first;
+            second = taken .second ∙ ap (part 2 0) (eqb-true _ _ (own .1));
+            third = taken .third;
+            fourth = taken .fourth;
           },
-      λ t. rw (eq-eqb (config .policy) 5 five, t .four, t .first, t .second, eq-eqb (call .process) (call .process) refl, third .1 (t .third), fourth .1 (t .fourth)),
+      λ t. let own : announcerOf template ≡ call .process = ap (λ (f : Field). f .value) (t .second) in
+          let taken : TakenOff template = record { four = t .four; first = t .first; second = t .second ∙ ap (part 2 0) (sym own); third = t .third; fourth = t .fourth } in
+          rw (eq-eqb (config .policy) 5 five, shape .1 taken, eq-eqb (announcerOf template) (call .process) own),
     )
 
 -- ---- cas

@@ -16,7 +16,7 @@ use Rattle.tuple.specs.declared.field.Field.{Field}
 use Rattle.tuple.specs.declared.field.Tuple.{Tuple}
 use Rattle.tuple.specs.Fields.{word, count, offset, processSet, defined, wildcard, formal, propose, decision, blankField}
 use Rattle.tuple.specs.Matching.{fieldMatches, fieldsMatch, matches}
-use Rattle.tuple.specs.Shapes.{field, is, says}
+use Rattle.tuple.specs.Shapes.{field, is, says, hasShape}
 
 -- a decision, and the template of one, under policies 1 to 3
 abbrev pub decides : Config → Tuple → Bool
@@ -83,11 +83,11 @@ module _ (n : ℕ) (template entry : Tuple) (t : Front n formal template) (e : F
 -- ---- decisions
 
 weak-front : (tuple : Tuple) → isWeakEntry tuple ≡ true → Front 3 defined tuple
-unfolding isWeakEntry
+unfolding hasShape
 weak-front tuple h = front 3 defined tuple h
 
 default-front : (tuple : Tuple) → isDecision tuple ≡ true → Front 4 defined tuple × (is processSet defined (field tuple 3) ≡ true)
-unfolding isDecision
+unfolding hasShape
 default-front tuple h = let parts = and-eq-true-iff _ (is processSet defined (field tuple 3)) .0 h in (front 4 defined tuple (parts .0), parts .1)
 
 pub decision-parts : (tuple : Tuple) → isDecision tuple ≡ true → (tuple .count ≡ 4) × (is offset defined (field tuple 2) ≡ true)
@@ -107,7 +107,7 @@ no-proposal config tuple h =
 
 weak-match : (template entry : Tuple) → isWeakTemplate template ≡ true → isWeakEntry entry ≡ true → roundOf template ≡ roundOf entry
     → matches template entry ≡ true
-unfolding isWeakTemplate
+unfolding hasShape
 weak-match template entry t e same =
     let asked = front 3 formal template t in
     let given = weak-front entry e in
@@ -115,7 +115,7 @@ weak-match template entry t e same =
 
 default-match : (template entry : Tuple) → isDecisionTemplate template ≡ true → isDecision entry ≡ true → roundOf template ≡ roundOf entry
     → matches template entry ≡ true
-unfolding isDecisionTemplate
+unfolding hasShape
 default-match template entry t e same =
     let parts = and-eq-true-iff _ (is processSet wildcard (field template 3)) .0 t in
     let asked = front 4 formal template (parts .0) in

@@ -2,4 +2,3 @@ pub mod AnnouncingLaws
 pub mod DecisionLaws
 pub mod ListingLaws
 pub mod PolicyLaws
-pub mod ShapeLaws

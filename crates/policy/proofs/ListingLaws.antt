@@ -1,40 +1,37 @@
 -- Policies 4 and 5: what their cas have in common, what policy 4 permits in the words of document 02, and that a template of a position matches exactly the list tuples there.
-use mathlib.Core.Path.{_≡_, refl, sym, ap, _∙_}
+use mathlib.Core.Path.{_≡_, refl, sym, _∙_}
 use mathlib.Core.Logic.{_↔_, _⊎_, inl, inr, ⊎-elim}
-use mathlib.Core.Bool.{true, false, false≢true, not, _&&_, _||_, or-true, and-eq-true-iff}
-use mathlib.Core.List.{List, [], _∷_}
+use mathlib.Core.Bool.{true, false, false≢true, not, or-true, and-eq-true-iff}
+use mathlib.Core.List.{List}
 use Prim.Native.Nat.{ℕ, zero, suc, _-_, _≤_, _<_}
 use native.Mathlib.Omega.{arith}
-use lib.ListN.{length, getD}
+use lib.ListN.{length}
 use lib.Dec.{leb, eqb}
-use borrow.Author.Tests.{leb-true, leb-false, eqb-true, eqb-false, not-true, le-leb, eq-eqb, ne-eqb}
+use borrow.Author.Tests.{leb-true, eqb-true, eqb-false, not-true, le-leb, eq-eqb, ne-eqb}
 use borrow.Table.Steps.{cases}
 use Rattle.policy.specs.declared.verdicts.Verdict.the-variants.{Permit}
-use Rattle.policy.specs.Laws.{ListTemplateRule, ListTemplateMade, ListCall, ListRdpRule, ListRule, ListDenied}
-use Rattle.policy.specs.Listing.{isListTemplate, listTemplate, positions, samePosition, isShift, isListCall, isNew, begins, follows, owed, isOwn, isDue, mayList, mayAnnounce, mayTakeOff, shared}
+use Rattle.policy.specs.Laws.{ListTemplateRule, ListCall, ListRdpRule, ListRule, ListDenied}
+use Rattle.policy.specs.Listing.{isListTemplate, positions, samePosition, isShift, isListCall, isNew, begins, follows, owed, isOwn, isDue, mayList, mayAnnounce, mayTakeOff, shared}
 use Rattle.policy.specs.Policies.{verdictOn}
 use Rattle.policy.proofs.DecisionLaws.{said}
 use Rattle.policy.proofs.PolicyLaws.{demanded, under-shared, otherwise-rule}
 use Rattle.space.specs.declared.config.Config.{Config}
 use Rattle.space.specs.Configs.{hasProposals, hasList}
-use Rattle.space.specs.Lists.{isListTuple, positionOf, serialOf, shiftCode, isFilled, isListed, Filled, Listed}
+use Rattle.space.specs.Lists.{isListTuple, positionOf, serialOf, shiftCode, isListed, Filled, Listed}
 use Rattle.space.specs.Shapes.{processOf}
 use Rattle.space.proofs.ConfigLaws.{proposals-deciding, has-list-rule}
 use Rattle.space.proofs.ListLaws.{list-parts, filled-rule, listed-rule}
 use Rattle.space.proofs.ShapeLaws.{four, within-fields}
-use Rattle.tuple.specs.declared.field.Field.{Field}
 use Rattle.tuple.specs.declared.field.Tuple.{Tuple}
 use Rattle.tuple.specs.declared.field.Call.{Call}
-use Rattle.tuple.specs.Faults.{restFrom, restBlank}
-use Rattle.tuple.specs.Fields.{word, count, offset, defined, wildcard, formal, out, rdp, inp, cas, listing, blankField}
+use Rattle.tuple.specs.Fields.{word, count, offset, defined, wildcard, formal, out, rdp, inp, cas, listing}
+use Rattle.tuple.specs.Forms.{listTemplate}
 use Rattle.tuple.specs.Laws.{FieldMatch}
-use Rattle.tuple.specs.Matching.{fieldMatches, matches}
+use Rattle.tuple.specs.Matching.{matches}
 use Rattle.tuple.specs.Offsets.{bottom}
 use Rattle.tuple.specs.Refusals.{refusal}
-use Rattle.tuple.specs.Shapes.{given, undefined, field, is, says}
-use Rattle.tuple.proofs.Blanks.{rest-blank}
-use Rattle.tuple.proofs.FieldLaws.{kind-state, field-is, field-says, open-field, used-blank, Six, view}
-use Rattle.tuple.proofs.FieldLaws.Six.{six}
+use Rattle.tuple.specs.Shapes.{field, is, says, hasShape}
+use Rattle.tuple.proofs.FieldLaws.{kind-state, field-is, field-says}
 use Rattle.tuple.proofs.MatchRules.{matches-rule}
 
 -- ---- the template
@@ -48,42 +45,19 @@ pub record Asks (tuple : Tuple) : Type 0 where
   pub shift : is offset formal (field tuple 4) ≡ true
 
 pub template-parts : (tuple : Tuple) → isListTemplate tuple ≡ true → Asks tuple
-unfolding isListTemplate
+unfolding hasShape
 template-parts tuple h =
     let last = and-eq-true-iff _ (is offset formal (field tuple 4)) .0 h in
     let fourth = and-eq-true-iff _ (is count wildcard (field tuple 3)) .0 (last .0) in
     let front = four (eqb (tuple .count) 5) (says word listing (field tuple 0)) (is count defined (field tuple 1)) (is count wildcard (field tuple 2)) (fourth .0) in
     record { counted = eqb-true _ _ (front .0); named = front .1; position = front .2; process = front .3; serial = fourth .1; shift = last .1 }
 
-template-fields : {fields : List Field} → Six fields → says word listing (getD fields 0 blankField) ≡ true → is count defined (getD fields 1 blankField) ≡ true
-    → is count wildcard (getD fields 2 blankField) ≡ true → is count wildcard (getD fields 3 blankField) ≡ true → is offset formal (getD fields 4 blankField) ≡ true
-    → restFrom 5 fields ≡ true
-    → fields
-    ≡ given word listing
-    ∷ given count (getD fields 1 blankField .value)
-    ∷ undefined count wildcard
-    ∷ undefined count wildcard
-    ∷ undefined offset formal
-    ∷ blankField
-    ∷ []
-template-fields (six a b c d e f) named position process serial shift blank =
-    let behind = used-blank 3 b _ (used-blank 4 a _ blank .1) .1 in
-    let third = used-blank 2 c _ behind in
-    let fourth = used-blank 1 d _ (third .1) in
-    let fifth = used-blank 0 e _ (fourth .1) in
-    let first = field-says word listing a named in
-    let second = field-is count defined b position (b .value) refl in
-    let any = open-field count wildcard c process (λ x. omega arith) (third .0) in
-    let any′ = open-field count wildcard d serial (λ x. omega arith) (fourth .0) in
-    let unset = open-field offset formal e shift (λ x. omega arith) (fifth .0) in
-    sym (rest-blank 5 (a ∷ b ∷ c ∷ d ∷ e ∷ f ∷ []) blank) ∙ (λ p. first p ∷ second p ∷ any p ∷ any′ p ∷ unset p ∷ blankField ∷ [])
-
 pub list-template : (position : ℕ) → isListTemplate (listTemplate position) ≡ true
-unfolding isListTemplate
+unfolding hasShape
 list-template position = refl
 
 pub list-template-rule : ListTemplateRule
-unfolding isListTemplate
+unfolding hasShape
 list-template-rule template = (
   λ h. let asks = template-parts template h in
       record {
@@ -95,15 +69,6 @@ list-template-rule template = (
         fifth = kind-state offset formal (field template 4) (asks .shift);
       },
   λ t. rw (t .five, t .first, t .second, t .third .0, t .third .1, t .fourth .0, t .fourth .1, t .fifth .0, t .fifth .1),
-)
-
-pub list-template-made : ListTemplateMade
-unfolding restBlank
-list-template-made template rest six-places = (
-  λ h. let asks = template-parts template h in
-      let fields = template-fields (view (template .fields) six-places) (asks .named) (asks .position) (asks .process) (asks .serial) (asks .shift) (rw (asks .counted) at rest) in
-      λ i. record { count = asks .counted i; fields = fields i },
-  λ e. ap isListTemplate e ∙ list-template (positionOf template),
 )
 
 -- ---- what it matches

@@ -5,9 +5,8 @@ use mathlib.Core.Bool.{true, false}
 use mathlib.Core.List.{List}
 use Prim.Native.Nat.{ℕ, _+_, _-_, _%_, _≤_, _<_}
 use lib.Count.{ones}
-use lib.ListN.{length}
 use Rattle.policy.specs.declared.verdicts.Verdict.the-variants.{Permit, Refuse}
-use Rattle.policy.specs.Listing.{isListTemplate, listTemplate, preferred}
+use Rattle.policy.specs.Listing.{isListTemplate, preferred}
 use Rattle.policy.specs.Policies.{verdictOn, verdict}
 use Rattle.policy.specs.Shapes.{isWeakTemplate, isWeakEntry, isDecisionTemplate, isDecision, decidedCode, setOf}
 use Rattle.space.specs.declared.config.Config.{Config}
@@ -21,7 +20,6 @@ use Rattle.space.specs.Shapes.{roundOf, isProposal, processOf, proposedCode}
 use Rattle.space.specs.Spaces.{bounded}
 use Rattle.tuple.specs.declared.field.Tuple.{Tuple}
 use Rattle.tuple.specs.declared.field.Call.{Call}
-use Rattle.tuple.specs.Faults.{restBlank}
 use Rattle.tuple.specs.declared.refusal.Refusal.{Refusal}
 use Rattle.tuple.specs.Refusals.{refusal}
 use Rattle.tuple.specs.Shapes.{field}
@@ -166,14 +164,6 @@ pub record ListTemplate (template : Tuple) (position : ℕ) : Type 0 where
 
 abbrev pub ListTemplateRule : Type 0
 ListTemplateRule = (template : Tuple) → (isListTemplate template ≡ true) ↔ ListTemplate template (positionOf template)
-
--- one whose unused parts are zero has nothing else: it is the one of its position
-abbrev pub ListTemplateMade : Type 0
-ListTemplateMade =
-    (template : Tuple)
-    → restBlank template true ≡ true
-    → length (template .fields) ≡ 6
-    → (isListTemplate template ≡ true) ↔ (template ≡ listTemplate (positionOf template))
 
 -- both shapes, on one position 1 to 112, of a shift other than bottom, whose process and serial are not listed, at any position with any shift; and the
 -- position is 1, or the one before it stands in the space

@@ -3,7 +3,6 @@ pub mod Justified
 pub mod Laws
 pub mod Listing
 pub mod Policies
-pub mod ShapeLaws
 pub mod Shapes
 pub mod Verdicts
 pub mod Weak

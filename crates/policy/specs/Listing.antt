@@ -1,7 +1,7 @@
 -- Document 02, 2.6 and 2.7: policies 4 and 5, a list of shifts that all processes share, under 5 with announcements, on the tuples that the space holds.
 use Prim.Native.Nat.{ℕ, _-_, _%_}
 use mathlib.Core.Bool.{Bool, true, false, cond, not, _&&_, _||_}
-use mathlib.Core.List.{List, [], _∷_}
+use mathlib.Core.List.{List}
 use lib.Dec.{leb, eqb}
 use Rattle.policy.specs.declared.verdicts.Verdict.{Verdict}
 use Rattle.policy.specs.declared.verdicts.Verdict.the-variants.{Permit, Refuse}
@@ -12,13 +12,13 @@ use Rattle.space.specs.declared.config.Config.{Config}
 use Rattle.space.specs.Announcements.{isAnnouncement, announcerOf, announcedOf}
 use Rattle.space.specs.Lists.{isListTuple, positionOf, serialOf, shiftCode, isFilled, isListed}
 use Rattle.space.specs.Shapes.{processOf}
-use Rattle.tuple.specs.declared.field.Field.{Field}
 use Rattle.tuple.specs.declared.field.Tuple.{Tuple}
 use Rattle.tuple.specs.declared.field.Call.{Call}
-use Rattle.tuple.specs.Fields.{word, count, offset, defined, wildcard, formal, out, rdp, inp, cas, listing, announcing, blankField}
+use Rattle.tuple.specs.Fields.{out, rdp, inp, cas}
+use Rattle.tuple.specs.Forms.{listTemplateShape, announcementTemplateShape}
 use Rattle.tuple.specs.Offsets.{bottom}
 use Rattle.tuple.specs.Refusals.{refusal}
-use Rattle.tuple.specs.Shapes.{given, undefined, field, is, says}
+use Rattle.tuple.specs.Shapes.{hasShape}
 
 -- the positions of the list are 1 to this
 abbrev pub positions : ℕ
@@ -27,22 +27,8 @@ positions = 112
 -- ---- the template of a cas
 
 -- word 3 and the position given, the next two counts any, and the offset open
-unfoldable pub isListTemplate : Tuple → Bool
-isListTemplate tuple =
-    eqb (tuple .count) 5
-    && says word listing (field tuple 0)
-    && is count defined (field tuple 1)
-    && is count wildcard (field tuple 2)
-    && is count wildcard (field tuple 3)
-    && is offset formal (field tuple 4)
-
--- the one of a position
-abbrev pub listTemplate : ℕ → Tuple
-listTemplate position =
-    record {
-      count = 5;
-      fields = given word listing ∷ given count position ∷ undefined count wildcard ∷ undefined count wildcard ∷ undefined offset formal ∷ blankField ∷ [];
-    }
+abbrev pub isListTemplate : Tuple → Bool
+isListTemplate tuple = hasShape listTemplateShape tuple
 
 -- ---- cas
 
@@ -119,19 +105,10 @@ mayAnnounce config tuples call =
     && eqb (announcerOf (call .entry)) (call .process)
     && isSilent (announcedOf tuples (call .process))
 
--- it has this kind, and no value: its state is any or open
-abbrev pub isUndefined : ℕ → Field → Bool
-isUndefined kind f = is kind wildcard f || is kind formal f
-
 -- word 4 and the caller's own number given, the other two undefined
 unfoldable pub mayTakeOff : Config → Call → Bool
 mayTakeOff config call =
-    eqb (config .policy) 5
-    && eqb (call .template .count) 4
-    && says word announcing (field (call .template) 0)
-    && says count (call .process) (field (call .template) 1)
-    && isUndefined count (field (call .template) 2)
-    && isUndefined offset (field (call .template) 3)
+    eqb (config .policy) 5 && hasShape announcementTemplateShape (call .template) && eqb (announcerOf (call .template)) (call .process)
 
 -- ---- by the call
 

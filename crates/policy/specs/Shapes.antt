@@ -4,24 +4,22 @@ use mathlib.Core.Bool.{Bool, _&&_}
 use lib.Dec.{eqb}
 use Rattle.space.specs.Shapes.{roundOf, inRounds}
 use Rattle.tuple.specs.declared.field.Tuple.{Tuple}
-use Rattle.tuple.specs.Fields.{word, count, offset, processSet, defined, wildcard, formal, decision}
-use Rattle.tuple.specs.Shapes.{field, is, says}
+use Rattle.tuple.specs.Forms.{weakTemplateShape, weakEntryShape, decisionTemplateShape, decisionShape}
+use Rattle.tuple.specs.Shapes.{field, hasShape}
 
 -- (word 2, count r, open offset) and (word 2, count r, offset v)
-unfoldable pub isWeakTemplate : Tuple → Bool
-isWeakTemplate tuple = eqb (tuple .count) 3 && says word decision (field tuple 0) && is count defined (field tuple 1) && is offset formal (field tuple 2)
+abbrev pub isWeakTemplate : Tuple → Bool
+isWeakTemplate tuple = hasShape weakTemplateShape tuple
 
-unfoldable pub isWeakEntry : Tuple → Bool
-isWeakEntry tuple = eqb (tuple .count) 3 && says word decision (field tuple 0) && is count defined (field tuple 1) && is offset defined (field tuple 2)
+abbrev pub isWeakEntry : Tuple → Bool
+isWeakEntry tuple = hasShape weakEntryShape tuple
 
 -- (word 2, count r, open offset, any seats) and (word 2, count r, offset v, seats P)
-unfoldable pub isDecisionTemplate : Tuple → Bool
-isDecisionTemplate tuple =
-    eqb (tuple .count) 4 && says word decision (field tuple 0) && is count defined (field tuple 1) && is offset formal (field tuple 2) && is processSet wildcard (field tuple 3)
+abbrev pub isDecisionTemplate : Tuple → Bool
+isDecisionTemplate tuple = hasShape decisionTemplateShape tuple
 
-unfoldable pub isDecision : Tuple → Bool
-isDecision tuple =
-    eqb (tuple .count) 4 && says word decision (field tuple 0) && is count defined (field tuple 1) && is offset defined (field tuple 2) && is processSet defined (field tuple 3)
+abbrev pub isDecision : Tuple → Bool
+isDecision tuple = hasShape decisionShape tuple
 
 -- a cas on one round, 0 to 7: both tuples name it
 abbrev pub sameRound : Tuple → Tuple → Bool

@@ -1,8 +1,8 @@
 // Policies 4 and 5: a list of shifts that all processes share, under 5 with announcements.
 ghost use mathlib.Core.Path.{_≡_};
-ghost use mathlib.Core.Bool.{true, cond, _&&_};
+ghost use mathlib.Core.Bool.{true, cond};
 ghost use Rattle.policy.specs.declared.verdicts.Verdict.the-variants.{Permit};
-ghost use Rattle.policy.specs.Listing.{isListTemplate, samePosition, isListCall, isNew, follows as follows·, preferred as preferred·, owed as owed·, isDue, mayList, isSilent, mayAnnounce, isUndefined, mayTakeOff, shared as shared·};
+ghost use Rattle.policy.specs.Listing.{isListTemplate, samePosition, isListCall, isNew, follows as follows·, preferred as preferred·, owed as owed·, isDue, mayList, isSilent, mayAnnounce, mayTakeOff, shared as shared·};
 ghost use Rattle.policy.specs.Verdicts.{demand};
 ghost use Rattle.space.specs.declared.announcement.Announced.the-variants.{Waits, Silent};
 ghost use Rattle.space.specs.Configs.{sound};
@@ -17,27 +17,19 @@ use space::is_filled;
 use space::is_list_tuple;
 use space::is_listed;
 use space::oldest_announced;
-use tuple::ANNOUNCING;
+use tuple::ANNOUNCEMENT_TEMPLATE;
 use tuple::BOTTOM;
 use tuple::CAS;
-use tuple::COUNT;
 use tuple::Call;
-use tuple::DEFINED;
-use tuple::FORMAL;
-use tuple::Field;
 use tuple::INP;
-use tuple::LISTING;
-use tuple::OFFSET;
+use tuple::LIST_TEMPLATE;
 use tuple::OUT;
 use tuple::RDP;
 use tuple::Refusal;
 use tuple::Tuple;
-use tuple::WILDCARD;
-use tuple::WORD;
-use tuple::all_five;
 use tuple::all_four;
-use tuple::is;
-use tuple::says;
+use tuple::all_three;
+use tuple::has_shape;
 
 // The positions of the list are 1 to this.
 const POSITIONS: u64 = 112;
@@ -113,23 +105,7 @@ fn is_list_call(call: Call) -> bool
 fn is_list_template(tuple: Tuple) -> bool
     ensures { λ r. ⌜ r ≡ isListTemplate tuple ⌝ }
 {
-    let first = tuple.fields[0];
-    let second = tuple.fields[1];
-    let third = tuple.fields[2];
-    let fourth = tuple.fields[3];
-    let fifth = tuple.fields[4];
-    let named = all_five(
-        tuple.count == 5,
-        says(first, WORD, LISTING),
-        is(second, COUNT, DEFINED),
-        is(third, COUNT, WILDCARD),
-        is(fourth, COUNT, WILDCARD),
-    );
-    if named {
-        is(fifth, OFFSET, FORMAL)
-    } else {
-        false
-    }
+    has_shape(tuple, LIST_TEMPLATE)
 }
 
 // Whether both tuples of a cas name one position, 1 to 112.
@@ -229,15 +205,6 @@ fn preferred(config: Config, position: u64) -> u64
     if process == 0 { n } else { process }
 }
 
-fn all_three(a: bool, b: bool, c: bool) -> bool
-    ensures { λ r. ⌜ r ≡ (a && b && c) ⌝ }
-{
-    if !a {
-        return false;
-    }
-    if b { c } else { false }
-}
-
 // ---- out and inp, under policy 5
 
 // Whether an out is of an announcement of the caller's own number, while none of its own stands.
@@ -270,32 +237,11 @@ fn may_take_off(config: Config, call: Call) -> bool
     ensures { λ r. ⌜ r ≡ mayTakeOff config call ⌝ }
 {
     let template = call.template;
-    let first = template.fields[0];
     let second = template.fields[1];
-    let third = template.fields[2];
-    let fourth = template.fields[3];
     let caller = call.process as u64;
-    let shaped = all_five(
+    all_three(
         config.policy == 5,
-        template.count == 4,
-        says(first, WORD, ANNOUNCING),
-        says(second, COUNT, caller),
-        is_undefined(third, COUNT),
-    );
-    if shaped {
-        is_undefined(fourth, OFFSET)
-    } else {
-        false
-    }
-}
-
-// Whether a field has this kind, and no value.
-fn is_undefined(field: Field, kind: u32) -> bool
-    ensures { λ r. ⌜ r ≡ isUndefined kind field ⌝ }
-{
-    if is(field, kind, WILDCARD) {
-        true
-    } else {
-        is(field, kind, FORMAL)
-    }
+        has_shape(template, ANNOUNCEMENT_TEMPLATE),
+        second.value == caller,
+    )
 }

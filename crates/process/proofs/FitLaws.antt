@@ -8,7 +8,6 @@ use native.Mathlib.Nat.{zero-div}
 use native.Mathlib.Omega.{arith}
 use lib.Dec.{eqb}
 use borrow.Author.Tests.{eqb-true, eq-eqb, le-leb}
-use Rattle.process.specs.Asks.{proposal, decisionEntry}
 use Rattle.process.specs.Fits.{isAskedProposal, isRoundDecision, fitsCas}
 use Rattle.process.specs.Procedure.{valueOf}
 use Rattle.space.proofs.CodeLaws.{offered-small, decidable-small}
@@ -24,8 +23,9 @@ use Rattle.tuple.specs.declared.reply.Outcome.{Outcome}
 use Rattle.tuple.specs.declared.reply.Outcome.the-variants as outcome
 use Rattle.tuple.specs.Bounds.{largestCount}
 use Rattle.tuple.specs.Faults.{isBlank, knownHead, fieldFault, fieldsFault, tupleFault, placeBlank, restFrom, restBlank, isEntry}
-use Rattle.tuple.specs.Shapes.{given}
+use Rattle.tuple.specs.Shapes.{given, hasShape}
 use Rattle.tuple.specs.Fields.{word, count, offset, processSet, propose, decision, largestOf}
+use Rattle.tuple.specs.Forms.{proposal, decisionEntry}
 
 -- ---- a found proposal
 
@@ -87,7 +87,7 @@ given-sound kind value head small = rw (head, le-leb value (largestOf kind) smal
 
 pub proposal-answers : (config : Config) (round asked code : ℕ) → round ≤ largestCount → asked ≤ largestCount → offered config code ≡ true
     → isAskedProposal config round asked (proposal round asked code) ≡ true
-unfolding isEntry tupleFault fieldsFault restBlank restFrom placeBlank isBlank isProposal knownHead largestOf
+unfolding isEntry tupleFault fieldsFault restBlank restFrom placeBlank isBlank hasShape knownHead largestOf
 proposal-answers config round asked code in-round by may =
     answer-rule config round asked (proposal round asked code) .1
     (record {
@@ -100,7 +100,7 @@ proposal-answers config round asked code in-round by may =
 
 pub decision-held : (config : Config) (round code set : ℕ) → round ≤ largestCount → decidable config code ≡ true → set ≤ largestOf processSet → within (config .n) set ≡ true
     → isRoundDecision config round (decisionEntry round code set) ≡ true
-unfolding isEntry tupleFault fieldsFault restBlank restFrom placeBlank isBlank isDecision knownHead largestOf
+unfolding isEntry tupleFault fieldsFault restBlank restFrom placeBlank isBlank hasShape knownHead largestOf
 decision-held config round code set in-round may small inside =
     held-rule config round (decisionEntry round code set) .1
     (record {

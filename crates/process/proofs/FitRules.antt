@@ -19,16 +19,13 @@ use Rattle.process.specs.States.{wellFormed}
 use Rattle.process.proofs.FitLaws.{answer-rule, held-rule, proposal-answers, decision-held}
 use Rattle.process.proofs.OrderLaws.{may-start, may-propose, offers}
 use Rattle.process.proofs.StateLaws.{formed-parts, reading-rule}
-use Rattle.policy.specs.ShapeLaws.{decisionOf}
 use Rattle.policy.specs.Shapes.{isDecision, decidedCode, setOf}
-use Rattle.policy.proofs.ShapeLaws.{decision-shapes}
 use Rattle.space.specs.declared.config.Config.{Config}
-use Rattle.space.specs.Laws.{proposalOf}
 use Rattle.space.specs.Proposals.{offered, decidable}
 use Rattle.space.specs.Shapes.{proposedCode, inRounds}
 use Rattle.space.proofs.CodeLaws.{offered-small, offered-decidable, bottom-decidable}
 use Rattle.space.proofs.MemberLaws.{within-rule}
-use Rattle.space.proofs.ShapeLaws.{four, proposal-made}
+use Rattle.space.proofs.ShapeLaws.{four}
 use Rattle.tuple.specs.declared.field.Tuple.{Tuple}
 use Rattle.tuple.specs.declared.offset.Offset.{Offset}
 use Rattle.tuple.specs.declared.reply.Outcome.{Outcome}
@@ -37,10 +34,12 @@ use Rattle.tuple.specs.declared.reply.Reply.{Reply}
 use Rattle.tuple.specs.Faults.{isAbsent, tupleFault, isBlank, placeBlank, restFrom, restBlank, isEntry}
 use Rattle.tuple.specs.Fields.{word, count, offset, processSet, defined, decision, largestOf}
 use Rattle.tuple.specs.Offsets.{bottom, codeOf, offsetOf}
-use Rattle.tuple.specs.Shapes.{field, is, says}
+use Rattle.tuple.specs.ShapeLaws.{proposalOf, decisionOf}
+use Rattle.tuple.specs.Shapes.{field, is, says, hasShape}
 use Rattle.tuple.proofs.Blanks.{blank-tuple}
 use Rattle.tuple.proofs.NoFault.{entry-small}
 use Rattle.tuple.proofs.OffsetLaws.{one-to-one}
+use Rattle.tuple.proofs.ShapeLaws.{forms-made}
 
 pub calls-made : CallsMade
 calls-made = record { outs = λ process round code. refl; reads = λ process round q. refl; casts = λ process round code set. refl }
@@ -66,7 +65,7 @@ module _ (config : Config) (round : ℕ) (start : MayStart config) (in-rounds : 
 
 -- a decision's set, as an entry has it
 small-set : (tuple : Tuple) → isEntry tuple ≡ true → isDecision tuple ≡ true → setOf tuple ≤ 32_767
-unfolding isDecision largestOf
+unfolding hasShape largestOf
 small-set tuple entry shape =
     let whole = and-eq-true-iff (eqb (tuple .count) 4 && says word decision (field tuple 0) && is count defined (field tuple 1) && is offset defined (field tuple 2)) _ .0 shape in
     let counted = four (eqb (tuple .count) 4) (says word decision (field tuple 0)) (is count defined (field tuple 1)) _ (whole .0) .0 in
@@ -111,7 +110,7 @@ module _ (process : Process) (formed : wellFormed process ≡ true) where
     rdp-fits asked outcome.None phase h = none asked phase (λ i. record { outcome = outcome.None; tuple = sym (blank-tuple tuple six h) i })
     rdp-fits asked outcome.Found phase h =
         let answer = answer-rule config (process .round) asked tuple .0 h in
-        let made = proposal-made tuple six (rest (answer .entry)) .0 (answer .shape) in
+        let made = forms-made .proposal tuple six (rest (answer .entry)) .0 (answer .shape) in
         found asked _ phase (may-offer config (process .round) start in-rounds _ (answer .may))
         (ap (λ (t : Tuple). record { outcome = outcome.Found; tuple = t }) (made ∙ (λ i. proposalOf (answer .in-round i) (answer .by i) (sym (one-to-one .forth (proposedCode tuple)) i))))
     rdp-fits asked outcome.Inserted phase h = absurd (false≢true h)
@@ -126,7 +125,7 @@ module _ (process : Process) (formed : wellFormed process ≡ true) where
     cas-fits outcome.Inserted phase h = inserted phase (λ i. record { outcome = outcome.Inserted; tuple = sym (blank-tuple tuple six h) i })
     cas-fits outcome.Held phase h =
         let answer = held-rule config (process .round) tuple .0 h in
-        let made = decision-shapes .entry tuple six (rest (answer .entry)) .0 (answer .shape) in
+        let made = forms-made .decision tuple six (rest (answer .entry)) .0 (answer .shape) in
         held _ _ phase (may-decide config (process .round) start in-rounds _ (answer .may)) (within-rule (config .n) (setOf tuple) .0 (answer .inside))
         (small-set tuple (answer .entry) (answer .shape))
         (ap (λ (t : Tuple). record { outcome = outcome.Held; tuple = t }) (made ∙ (λ i. decisionOf (answer .in-round i) (sym (one-to-one .forth (decidedCode tuple)) i) (setOf tuple))))

@@ -14,7 +14,6 @@ use borrow.Table.Steps.{cases}
 use Rattle.process.specs.declared.process.Phase.{Phase}
 use Rattle.process.specs.declared.process.Phase.the-variants.{Proposing, Reading, Deciding, Decided}
 use Rattle.process.specs.declared.process.Process.{Process}
-use Rattle.process.specs.Asks.{proposal, decisionEntry}
 use Rattle.process.specs.Fits.{fits}
 use Rattle.process.specs.Laws.{ReachableRule, NextRule}
 use Rattle.process.specs.Procedure.{readOn}
@@ -32,9 +31,9 @@ use Rattle.space.specs.Proposals.{offered, decidable}
 use Rattle.space.proofs.CodeLaws.{zero-offered}
 use Rattle.tuple.specs.declared.offset.Offset.the-variants.{Hundredths}
 use Rattle.tuple.specs.declared.reply.Outcome.the-variants.{Done, None, Found, Held}
-use Rattle.tuple.specs.declared.reply.Reply.{Reply}
 use Rattle.tuple.specs.Faults.{isBlank, placeBlank, restFrom, restBlank}
 use Rattle.tuple.specs.Fields.{blankTuple}
+use Rattle.tuple.specs.Forms.{proposal, decisionEntry}
 use Rattle.tuple.specs.Offsets.{bottom}
 
 -- ---- what is reached is well formed, and goes on

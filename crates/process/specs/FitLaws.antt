@@ -2,7 +2,6 @@
 use mathlib.Core.Path.{_≡_}
 use mathlib.Core.Logic.{_↔_}
 use mathlib.Core.Bool.{true}
-use mathlib.Core.List.{[], _∷_}
 use Prim.Native.Nat.{ℕ, _≤_}
 use lib.ListN.{length}
 use Rattle.process.specs.declared.process.Phase.the-variants.{Proposing, Reading, Deciding}
@@ -11,9 +10,7 @@ use Rattle.process.specs.Asks.{outCall, rdpCall, casCall}
 use Rattle.process.specs.Fits.{fits}
 use Rattle.process.specs.Laws.{MayPropose}
 use Rattle.process.specs.States.{wellFormed}
-use Rattle.policy.specs.ShapeLaws.{part, four, decisionOf}
 use Rattle.space.specs.declared.config.Config.{Config}
-use Rattle.space.specs.Laws.{proposalOf}
 use Rattle.space.specs.Members.{Member}
 use Rattle.tuple.specs.declared.field.Tuple.{Tuple}
 use Rattle.tuple.specs.declared.offset.Offset.{Offset}
@@ -22,18 +19,18 @@ use Rattle.tuple.specs.declared.reply.Outcome.the-variants.{Done, None, Found, 
 use Rattle.tuple.specs.declared.reply.Reply.{Reply}
 use Rattle.tuple.specs.Laws.{nothing}
 use Rattle.tuple.specs.Offsets.{codeOf}
+use Rattle.tuple.specs.ShapeLaws.{part, zero, begun, proposalOf, decisionOf}
 
 -- (word 1, count r, count q, open offset)
 abbrev pub askedOf : ℕ → ℕ → Tuple
-askedOf round process =
-    record { count = 4; fields = part 1 0 1 ∷ part 2 0 round ∷ part 2 0 process ∷ part 3 2 0 ∷ part 0 0 0 ∷ part 0 0 0 ∷ [] }
+askedOf round process = begun 4 1 round (part 2 0 process) (part 3 2 0) zero
 
 -- out (1) its proposal; rdp (2) of process q's proposal; cas (4) of (word 2, count r, open offset, any seats) with (word 2, count r, offset v, seats P)
 pub record CallsMade : Type 0 where
   pub outs : (process round code : ℕ) → outCall process round code ≡ record { process = process; code = 1; template = nothing; entry = proposalOf round process code }
   pub reads : (process round q : ℕ) → rdpCall process round q ≡ record { process = process; code = 2; template = askedOf round q; entry = nothing }
   pub casts : (process round code set : ℕ)
-      → casCall process round code set ≡ record { process = process; code = 4; template = four round (part 3 2 0) (part 4 1 0); entry = decisionOf round code set }
+      → casCall process round code set ≡ record { process = process; code = 4; template = begun 4 2 round (part 3 2 0) (part 4 1 0) zero; entry = decisionOf round code set }
 
 -- what may be decided: what may be proposed, and under policy 2 bottom
 pub data MayDecide (config : Config) (round : ℕ) (offset : Offset) : Type 0 where

@@ -19,7 +19,7 @@ use Rattle.process.specs.States.{startable, foundSound, wellFormed}
 use Rattle.process.specs.Tallies.{backing, backingSet, backed, settled, total, nextAfter}
 use Rattle.space.specs.declared.config.Config.{Config}
 use Rattle.space.specs.Configs.{sound}
-use Rattle.space.specs.Laws.{Sound, proposalOf}
+use Rattle.space.specs.Laws.{Sound}
 use Rattle.space.specs.Members.{Member}
 use Rattle.policy.specs.Shapes.{decidedCode}
 use Rattle.space.specs.Shapes.{proposedCode}
@@ -31,6 +31,7 @@ use Rattle.tuple.specs.declared.reply.Reply.{Reply}
 use Rattle.tuple.specs.Laws.{nothing, noCall}
 use Rattle.tuple.specs.Offsets.{codeOf, offsetOf}
 use Rattle.tuple.specs.Refusals.{refusal}
+use Rattle.tuple.specs.ShapeLaws.{proposalOf}
 use Rattle.tuple.specs.Shapes.{field}
 
 -- ---- what is blank, in numbers

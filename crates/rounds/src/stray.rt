@@ -1,19 +1,13 @@
 // The fixed calls of faulty processes in round 0, one for each pass. -40 has the code 80, 40 the code 81, 5 the code 11, and the choices 0, 1 and 2
 // have the codes 1, 3 and 5.
 use tuple::CAS;
-use tuple::COUNT;
 use tuple::Call;
-use tuple::DECISION;
-use tuple::DEFINED;
-use tuple::FORMAL;
-use tuple::Field;
-use tuple::OFFSET;
+use tuple::DECISION_ENTRY;
+use tuple::DECISION_TEMPLATE;
 use tuple::OUT;
-use tuple::PROCESS_SET;
-use tuple::PROPOSE;
+use tuple::PROPOSAL;
 use tuple::Tuple;
-use tuple::WILDCARD;
-use tuple::WORD;
+use tuple::make;
 
 // Which faulty processes there are in a case.
 pub(crate) enum Strays {
@@ -81,11 +75,7 @@ fn propose(caller: u32, process: u64, code: u64) -> Call {
         process: caller,
         code: OUT,
         template: Tuple::blank(),
-        entry: four(
-            PROPOSE,
-            field(COUNT, DEFINED, process),
-            field(OFFSET, DEFINED, code),
-        ),
+        entry: make(PROPOSAL, 0, process, code, 0),
     }
 }
 
@@ -94,35 +84,7 @@ fn decide(caller: u32, code: u64, set: u64) -> Call {
     Call {
         process: caller,
         code: CAS,
-        template: four(
-            DECISION,
-            field(OFFSET, FORMAL, 0),
-            field(PROCESS_SET, WILDCARD, 0),
-        ),
-        entry: four(
-            DECISION,
-            field(OFFSET, DEFINED, code),
-            field(PROCESS_SET, DEFINED, set),
-        ),
+        template: make(DECISION_TEMPLATE, 0, 0, 0, 0),
+        entry: make(DECISION_ENTRY, 0, code, set, 0),
     }
-}
-
-// (word, count 0, and two fields more)
-fn four(word: u64, c: Field, d: Field) -> Tuple {
-    let blank = Field::blank();
-    Tuple {
-        count: 4,
-        fields: [
-            field(WORD, DEFINED, word),
-            field(COUNT, DEFINED, 0),
-            c,
-            d,
-            blank,
-            blank,
-        ],
-    }
-}
-
-fn field(kind: u32, state: u32, value: u64) -> Field {
-    Field { kind, state, value }
 }

@@ -23,9 +23,9 @@ use Rattle.policy.specs.Laws.{DecisionCall}
 use Rattle.policy.specs.declared.verdicts.Verdict.the-variants.{Permit}
 use Rattle.policy.specs.Policies.{verdictOn}
 use Rattle.tuple.specs.Offsets.{bottom}
-use Rattle.policy.specs.Shapes.{isDecisionTemplate, isDecision}
 use Rattle.tuple.specs.declared.field.Tuple.{Tuple}
 use Rattle.tuple.specs.declared.field.Call.{Call}
+use Rattle.tuple.specs.Shapes.{hasShape}
 
 -- what is found in a round stands
 abbrev pub Seen : Config → List Tuple → ℕ → List ℕ → Type 0
@@ -37,7 +37,7 @@ module _ {config : Config} (s : SoundConfig config) {tuples : List Tuple} (fair 
   call value = casCall q round value (backingSet value found)
 
   pub shaped : (value : ℕ) → decidable config value ≡ true → DecisionCall config (call value)
-  unfolding isDecisionTemplate isDecision
+  unfolding hasShape
   shaped value may =
       record {
         template = refl;

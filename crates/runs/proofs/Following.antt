@@ -12,7 +12,7 @@ use Rattle.process.specs.declared.process.Next.the-variants.{Calls}
 use Rattle.process.specs.declared.process.Phase.the-variants.{Proposing, Reading, Deciding}
 use Rattle.process.specs.declared.process.Process.{Process}
 use Rattle.process.specs.declared.process.Step.{Step}
-use Rattle.process.specs.Asks.{proposal, outCall, rdpCall}
+use Rattle.process.specs.Asks.{outCall, rdpCall}
 use Rattle.process.specs.Fits.{fits}
 use Rattle.process.specs.Procedure.{proposable, started, reads, resumed}
 use Rattle.process.specs.States.{noneFound, wellFormed}
@@ -49,6 +49,7 @@ use Rattle.tuple.specs.declared.reply.Outcome.the-variants.{Done}
 use Rattle.tuple.specs.declared.reply.Reply.{Reply}
 use Rattle.tuple.specs.Fields.{blankTuple}
 use Rattle.tuple.specs.Bounds.{largestCode}
+use Rattle.tuple.specs.Forms.{proposal}
 use Rattle.tuple.proofs.OffsetLaws.{one-to-one}
 
 code-proposable : (config : Config) (offset : Offset) → proposable config offset ≡ true → (offered config (codeOf offset) ≡ true) × (codeOf offset ≤ largestCode)

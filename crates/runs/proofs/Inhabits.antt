@@ -31,7 +31,6 @@ use Rattle.runs.proofs.Tests.{proposed-rule}
 use Rattle.runs.proofs.Turning.{turns-append}
 use Rattle.space.proofs.ConfigLaws.{sound-rule}
 use Rattle.space.specs.declared.config.Config.{Config}
-use Rattle.space.specs.Shapes.{isProposal}
 use Rattle.calls.specs.Turns.{last, applied, turns, turnsFrom}
 use Rattle.tuple.specs.declared.field.Tuple.{Tuple}
 use Rattle.tuple.specs.declared.field.Call.{Call}
@@ -39,6 +38,7 @@ use Rattle.tuple.specs.declared.offset.Offset.{Offset}
 use Rattle.tuple.specs.declared.reply.Outcome.{Outcome}
 use Rattle.tuple.specs.declared.reply.Outcome.the-variants.{Done, None, Found, Inserted, Held, Refused}
 use Rattle.tuple.specs.Offsets.{codeOf}
+use Rattle.tuple.specs.Shapes.{hasShape}
 use Rattle.tuple.proofs.OffsetLaws.{one-to-one}
 
 -- ---- small facts
@@ -137,7 +137,7 @@ module _ {config : Config} (s : SoundConfig config) (m round : ℕ) (choice : �
         only-done _ _ (subst (λ (step : Step). fits (step .process) (applied (last config (o .calls)) (opening newest) .reply) ≡ true) same fit)
 
     proposes : Proposer (o .calls ++ (opening newest ∷ [])) newest
-    unfolding turnsFrom isProposal listed first
+    unfolding turnsFrom hasShape listed first
     proposes = (
       between s (o .calls) first round (choice newest) refl refl starts,
       record {

@@ -16,7 +16,7 @@ use Rattle.process.specs.declared.process.Phase.{Phase}
 use Rattle.process.specs.declared.process.Phase.the-variants.{Reading, Deciding}
 use Rattle.process.specs.declared.process.Process.{Process}
 use Rattle.process.specs.declared.process.Step.{Step}
-use Rattle.process.specs.Asks.{decisionEntry, rdpCall, casCall}
+use Rattle.process.specs.Asks.{rdpCall, casCall}
 use Rattle.process.specs.Fits.{fits}
 use Rattle.process.specs.Procedure.{reads, casts, readOn, resumed}
 use Rattle.process.specs.States.{wellFormed}
@@ -37,7 +37,7 @@ use Rattle.runs.proofs.Standing.{Stands}
 use Rattle.space.specs.declared.config.Config.{Config}
 use Rattle.calls.specs.declared.turn.Applied.{Applied}
 use Rattle.space.specs.Bounds.{processes, rounds}
-use Rattle.policy.specs.Shapes.{decidedCode, isDecision}
+use Rattle.policy.specs.Shapes.{decidedCode}
 use Rattle.space.specs.Proposals.{Proposed}
 use Rattle.space.specs.Shapes.{processOf, proposedCode, isProposal, roundOf}
 use Rattle.space.specs.Spaces.{spaceOf}
@@ -49,7 +49,9 @@ use Rattle.tuple.specs.declared.reply.Reply.{Reply}
 use Rattle.tuple.specs.Faults.{restFrom, restBlank, placeBlank, isBlank}
 use Rattle.tuple.specs.Fields.{blankTuple}
 use Rattle.tuple.specs.Bounds.{largestCode}
+use Rattle.tuple.specs.Forms.{decisionEntry}
 use Rattle.tuple.specs.Offsets.{offsetOf}
+use Rattle.tuple.specs.Shapes.{hasShape}
 
 -- a state of process q
 abbrev pub at : Config → ℕ → ℕ → Phase → List ℕ → Process
@@ -198,7 +200,7 @@ module _ {config : Config} (s : SoundConfig config) {q : ℕ} (low : 1 ≤ q) (h
     pub stands : Stands next (record { round = round; offset = offset })
 
   settles : (done : Applied) → space.Cast s fair q round value (backingSet value found) done → Settles done
-  unfolding fits isProposal isDecision
+  unfolding fits hasShape
   settles done space.Cast.puts =
       let entry = decisionEntry round value (backingSet value found) in
       record {

@@ -8,7 +8,7 @@ use lib.ListN.{length, getD}
 use lib.Dec.{ltb}
 use borrow.Author.Tests.{le-leb, ltb-true}
 use borrow.Table.Steps.{cases}
-use Rattle.process.specs.Asks.{proposal, proposalTemplate, decisionTemplate, decisionEntry, outCall, rdpCall, casCall}
+use Rattle.process.specs.Asks.{outCall, rdpCall, casCall}
 use Rattle.runs.specs.Theorem.{SoundConfig}
 use Rattle.runs.proofs.Fair.{Fair, fair-step}
 use Rattle.runs.proofs.Configs.{config-sound, permitted-out, permitted-rdp, sort-of}
@@ -42,8 +42,10 @@ use Rattle.tuple.specs.declared.reply.Outcome.the-variants.{Done, None, Found, 
 use Rattle.tuple.specs.Faults.{knownHead, fieldFault, fieldsFault, tupleFault, partFault, usesTemplate, usesEntry, usedFault, isBlank, placeBlank, restFrom, restBlank, callFault, isEntry}
 use Rattle.tuple.specs.Bounds.{largestCount, largestSet, capacity, largestCode}
 use Rattle.tuple.specs.Fields.{largestOf, blankTuple}
+use Rattle.tuple.specs.Forms.{proposal, proposalTemplate, decisionTemplate, decisionEntry}
 use Rattle.tuple.specs.Matching.{oldestOf}
 use Rattle.tuple.specs.Refusals.{refusal}
+use Rattle.tuple.specs.Shapes.{hasShape}
 use Rattle.tuple.proofs.MatchRules.{oldest-rule}
 
 -- ---- the calls have no fault
@@ -83,7 +85,7 @@ module _ {config : Config} (s : SoundConfig config) {tuples : List Tuple} (fair 
       → ((tuple : Tuple) → List·Memᴰ tuple tuples → isProposal tuple ≡ true → roundOf tuple ≡ r → processOf tuple ≡ q → ⊥)
       → applied (spaceOf config tuples) (outCall q r code)
       ≡ record { reply = record { outcome = Done; tuple = blankTuple }; space = spaceOf config (tuples ++ (proposal r q code ∷ [])) }
-  unfolding effect isProposal
+  unfolding effect hasShape
   proposes q r code low high early may small free =
       let call = outCall q r code in
       let permitted = permitted-out s tuples call refl .1

@@ -6,7 +6,6 @@ use mathlib.Core.Bool.{true, _&&_, and-eq-true-iff}
 use lib.ListN.{length}
 use lib.Dec.{eqb}
 use borrow.Author.Tests.{eqb-true}
-use Rattle.process.specs.Asks.{proposalTemplate, decisionTemplate}
 use Rattle.runs.proofs.Configs.{Sort}
 use Rattle.runs.proofs.Configs.Sort.{proposal, decision}
 use Rattle.space.specs.declared.config.Config.{Config}
@@ -14,12 +13,13 @@ use Rattle.policy.specs.Shapes.{decidedCode, setOf, isDecision}
 use Rattle.space.specs.Members.{within}
 use Rattle.space.specs.Proposals.{decidable}
 use Rattle.space.specs.Shapes.{processOf, isProposal, roundOf}
-use Rattle.tuple.specs.Shapes.{field, is, says}
+use Rattle.tuple.specs.Shapes.{field, is, says, hasShape}
 use Rattle.calls.proofs.Effects.{Proposal}
 use Rattle.space.proofs.ShapeLaws.{four, within-fields}
 use Rattle.tuple.specs.declared.field.Field.{Field}
 use Rattle.tuple.specs.declared.field.Tuple.{Tuple}
 use Rattle.tuple.specs.Fields.{word, count, offset, processSet, defined, propose, decision as decided}
+use Rattle.tuple.specs.Forms.{proposalTemplate, decisionTemplate}
 use Rattle.tuple.specs.Matching.{matches}
 use Rattle.tuple.proofs.MatchRules.{matches-rule}
 
@@ -55,11 +55,11 @@ shape w c d tuple some h =
     }
 
 pub proposal-shape : (tuple : Tuple) → isProposal tuple ≡ true → Shape propose count offset tuple
-unfolding isProposal
+unfolding hasShape
 proposal-shape tuple h = shape propose count offset tuple (omega arith) h
 
 pub decision-shape : (tuple : Tuple) → isDecision tuple ≡ true → Shape decided offset processSet tuple
-unfolding isDecision
+unfolding hasShape
 decision-shape tuple h = shape decided offset processSet tuple (omega arith) h
 
 -- ---- templates

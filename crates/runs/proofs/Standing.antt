@@ -21,7 +21,7 @@ use Rattle.policy.specs.Laws.{DecisionCall}
 use Rattle.policy.specs.declared.verdicts.Verdict.the-variants.{Permit}
 use Rattle.policy.specs.Policies.{verdictOn}
 use Rattle.calls.specs.Turns.{last, Turn, applied, turns}
-use Rattle.tuple.specs.Shapes.{field, is, says}
+use Rattle.tuple.specs.Shapes.{field, is, says, hasShape}
 use Rattle.space.specs.Shapes.{roundOf, isProposal}
 use Rattle.space.specs.Spaces.{held}
 use Rattle.calls.proofs.CallSteps.{Puts}
@@ -60,7 +60,7 @@ said-word : (value : ℕ) (f : Field) → says word value f ≡ true → (is wor
 said-word value f h = let parts = and-eq-true-iff (is word defined f) _ .0 h in (parts .0, eqb-true _ _ (parts .1))
 
 matched-unproposed : (template tuple : Tuple) → isDecisionTemplate template ≡ true → matches template tuple ≡ true → isProposal tuple ≡ true → ⊥
-unfolding isDecisionTemplate matches
+unfolding hasShape matches
 matched-unproposed template tuple t h p =
     let places = and-eq-true-iff _ (is processSet wildcard (field template 3)) .0 t .0 in
     let front = four (eqb (template .count) 4) (says word decision (field template 0)) _ _ places in

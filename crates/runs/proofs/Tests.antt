@@ -22,7 +22,7 @@ use Rattle.tuple.specs.declared.reply.Outcome.{Outcome}
 use Rattle.tuple.specs.declared.reply.Outcome.the-variants.{Done, None, Found, Inserted, Held, Refused}
 use Rattle.tuple.specs.Fields.{word, count, offset, defined, propose, out}
 use Rattle.tuple.specs.Offsets.{codeOf, offsetOf}
-use Rattle.tuple.specs.Shapes.{field, is, says}
+use Rattle.tuple.specs.Shapes.{field, is, says, hasShape}
 use Rattle.tuple.proofs.FieldLaws.{field-is, field-says}
 use Rattle.tuple.proofs.OffsetLaws.{one-to-one}
 
@@ -183,7 +183,7 @@ proposed-rule test list round process = (
 
 -- the out of a proposal, in numbers
 pub out-done-rule : OutDoneRule
-unfolding isProposal
+unfolding hasShape
 out-done-rule list round process w = (
   λ p. let entry = p .turn .call .entry in
       let counts = is count defined (field entry 1) in

@@ -24,7 +24,6 @@ use Rattle.space.specs.Configs.{sound}
 use Rattle.space.specs.Members.{Member, within, counted}
 use Rattle.space.specs.Spaces.{spaceOf, freshOf}
 use Rattle.policy.specs.Laws.{DecisionCall, BearsOffset, BearsBottom}
-use Rattle.policy.specs.ShapeLaws.{part}
 use Rattle.policy.specs.declared.verdicts.Verdict.the-variants.{Permit}
 use Rattle.policy.specs.Policies.{verdictOn}
 use Rattle.tuple.specs.Offsets.{bottom, codeOf}
@@ -37,6 +36,7 @@ use Rattle.tuple.specs.declared.reply.Outcome.the-variants.{Done, Inserted, Hel
 use Rattle.tuple.specs.declared.reply.Reply.{Reply}
 use Rattle.tuple.specs.Fields.{cas}
 use Rattle.tuple.specs.Refusals.{refusal}
+use Rattle.tuple.specs.ShapeLaws.{part}
 use Rattle.tuple.specs.Shapes.{field}
 
 -- ---- the tests say what they should

@@ -10,18 +10,16 @@ use Rattle.calls.specs.Effects.{effect}
 use Rattle.calls.specs.Turns.{firstRefusal, judged, applied, turnsFrom, lastOf}
 use Rattle.policy.specs.Default.{bearsBottom}
 use Rattle.policy.specs.Justified.{isOwnProposal, isFree, outVerdict, isDecisionCall, bearsOffset, bears, casVerdict, justified}
-use Rattle.policy.specs.Listing.{isListTemplate, isListCall, isNew, begins, follows, preferred, owed, isDue, mayList, mayAnnounce, mayTakeOff, shared}
+use Rattle.policy.specs.Listing.{isListCall, isNew, begins, follows, preferred, owed, isDue, mayList, mayAnnounce, mayTakeOff, shared}
 use Rattle.policy.specs.Policies.{verdictOn, verdict}
-use Rattle.policy.specs.Shapes.{isWeakTemplate, isWeakEntry, isDecisionTemplate, isDecision}
 use Rattle.policy.specs.Weak.{isWeakCall, weak}
 use Rattle.record.specs.Heads.{headOf}
 use Rattle.record.specs.Reading.{readNumber, valueAt, fieldAt, fieldsAt, tupleAt, partAt, partsAt, bodyAt, callAt}
 use Rattle.space.specs.Announcements.{isAnnouncement, announces, announcedOf}
 use Rattle.space.specs.Configs.{choiceSound, plainSound, sound, hasProposals, hasList, known}
-use Rattle.space.specs.Lists.{isListTuple, lists, isThere, isFilled, isListed}
+use Rattle.space.specs.Lists.{lists, isThere, isFilled, isListed}
 use Rattle.space.specs.Members.{beyond, within, every, counted, strike}
 use Rattle.space.specs.Proposals.{isChoice, offered, decidable, proposes, proposed, everyProposed, backers, crowdedBy}
-use Rattle.space.specs.Shapes.{isProposal}
 use Rattle.space.specs.Spaces.{placeSound, placesFrom, bounded, wellFormed, freshOf}
 use Rattle.text.specs.Digits.{decimalFrom, decimal}
 use Rattle.text.specs.Signs.{ascii}
@@ -29,6 +27,7 @@ use Rattle.text.specs.Texts.{spaced, valueText, letterText, fieldText, fieldsTe
 use Rattle.tuple.specs.Faults.{knownHead, fieldFault, fieldsFault, tupleFault, partFault, usesTemplate, usesEntry, usedFault, isBlank, placeBlank, restFrom, restBlank, callFault, isEntry}
 use Rattle.tuple.specs.Fields.{largestOf}
 use Rattle.tuple.specs.Matching.{fieldMatches, fieldsMatch, matches, oldestFrom, oldestOf}
+use Rattle.tuple.specs.Shapes.{hasShape}
 use Rattle.varint.specs.Reading.{joined, numberFrom, numberAt}
 
 pub example-texts : ExampleTexts
@@ -36,11 +35,10 @@ unfolding ascii bytesIn scriptOf textOf text printed linesFrom ran ranOn configO
     readNumber numberAt numberFrom joined callAt bodyAt partsAt partAt tupleAt fieldsAt fieldAt valueAt headOf
     carriedOut effect firstRefusal judged applied turnsFrom lastOf
     bearsBottom isOwnProposal isFree outVerdict isDecisionCall bearsOffset bears casVerdict justified isWeakCall weak verdictOn verdict
-    isWeakTemplate isWeakEntry isDecisionTemplate isDecision
-    isListTemplate isListCall isNew begins follows preferred owed isDue mayList mayAnnounce mayTakeOff shared isListTuple lists isThere isFilled isListed isAnnouncement announces announcedOf
-    choiceSound plainSound sound hasProposals hasList known beyond within every counted strike isChoice offered decidable proposes proposed everyProposed backers crowdedBy isProposal
+    isListCall isNew begins follows preferred owed isDue mayList mayAnnounce mayTakeOff shared lists isThere isFilled isListed isAnnouncement announces announcedOf
+    choiceSound plainSound sound hasProposals hasList known beyond within every counted strike isChoice offered decidable proposes proposed everyProposed backers crowdedBy
     placeSound placesFrom bounded wellFormed freshOf
     decimalFrom decimal spaced valueText letterText fieldText fieldsText tupleText refusalText outcomeText replyLine refusedLine
     knownHead fieldFault fieldsFault tupleFault partFault usesTemplate usesEntry usedFault isBlank placeBlank restFrom restBlank callFault isEntry
-    largestOf fieldMatches fieldsMatch matches oldestFrom oldestOf ones
+    largestOf fieldMatches fieldsMatch matches oldestFrom oldestOf ones hasShape
 example-texts = refl

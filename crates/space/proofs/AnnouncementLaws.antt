@@ -1,8 +1,8 @@
 -- Announcements and the oldest one of a process: one step of a search, and the laws in document 02's words. From the definitions.
 use mathlib.Core.Path.{_≡_, refl, sym, ap, _∙_}
-use mathlib.Core.Logic.{_↔_, inl, inr, ⊎-elim}
-use mathlib.Core.Bool.{true, false, not, _&&_, and-eq-true-iff}
-use mathlib.Core.List.{List, [], _∷_, List·Memᴰ, List·Memᴰ·head, List·Memᴰ·tail, List·Memᴰ·not-nil, List·Memᴰ·cases-cons}
+use mathlib.Core.Logic.{_↔_, ⊎-elim}
+use mathlib.Core.Bool.{true, false, not, and-eq-true-iff}
+use mathlib.Core.List.{List, [], _∷_, List·Memᴰ·not-nil, List·Memᴰ·cases-cons}
 use Prim.Native.Nat.{ℕ, zero, suc, _+_, _≤_, _<_, min}
 use native.Mathlib.Omega.{arith}
 use lib.ListN.{length, take, drop, getD}
@@ -12,17 +12,16 @@ use borrow.Table.Steps.{cases}
 use Rattle.space.specs.declared.announcement.Announced.{Announced}
 use Rattle.space.specs.declared.announcement.Announced.the-variants.{Waits, Silent}
 use Rattle.space.specs.Announcements.{isAnnouncement, announcerOf, announcedSerial, announcedCode, announces, announcedOf, Announcing, Oldest}
-use Rattle.space.specs.Laws.{AnnouncementRule, AnnouncementMade, AnnouncedRule, AnnouncedRules}
+use Rattle.space.specs.Laws.{AnnouncementRule, AnnouncedRules}
 use Rattle.space.proofs.ShapeLaws.{four}
 use Rattle.space.proofs.SpaceRules.{stands}
 use Rattle.tuple.specs.declared.field.Field.{Field}
 use Rattle.tuple.specs.declared.field.Tuple.{Tuple}
 use Rattle.tuple.specs.Fields.{word, count, offset, defined, announcing, blankTuple}
 use Rattle.tuple.specs.Offsets.{bottom}
-use Rattle.tuple.specs.Shapes.{field, is, says}
+use Rattle.tuple.specs.Shapes.{field, is, says, hasShape}
 use Rattle.tuple.proofs.FieldLaws.{field-is, field-says}
 use Rattle.tuple.proofs.Lists.{drop-take-step, drop-take-end}
-use Rattle.tuple.proofs.Made.{four-made}
 
 -- ---- one step of the search
 
@@ -54,7 +53,7 @@ pub record Parts (tuple : Tuple) : Type 0 where
   pub some : announcedCode tuple ≡ bottom → ⊥
 
 pub announcement-parts : (tuple : Tuple) → isAnnouncement tuple ≡ true → Parts tuple
-unfolding isAnnouncement
+unfolding isAnnouncement hasShape
 announcement-parts tuple h =
     let last = and-eq-true-iff _ (not (eqb (field tuple 3 .value) bottom)) .0 h in
     let shift = and-eq-true-iff _ (is offset defined (field tuple 3)) .0 (last .0) in
@@ -62,7 +61,7 @@ announcement-parts tuple h =
     record { counted = eqb-true _ _ (front .0); named = front .1; process = front .2; serial = front .3; shift = shift .1; some = eqb-false _ _ (not-true _ (last .1)) }
 
 pub announcement-rule : AnnouncementRule
-unfolding isAnnouncement
+unfolding isAnnouncement hasShape
 announcement-rule tuple process serial code = (
   λ h. let parts = announcement-parts tuple (h .0) in
       record {
@@ -81,17 +80,6 @@ announcement-rule tuple process serial code = (
         value _ _ (t .third),
         shift,
       ),
-)
-
-pub announcement-made : AnnouncementMade
-unfolding isAnnouncement
-announcement-made tuple six rest = (
-  λ h. let parts = announcement-parts tuple h in (
-    four-made tuple six rest _ _ _ _ (parts .counted) (field-says word announcing _ (parts .named)) (field-is count defined _ (parts .process) _ refl)
-        (field-is count defined _ (parts .serial) _ refl) (field-is offset defined _ (parts .shift) _ refl),
-    parts .some,
-  ),
-  λ m. ap isAnnouncement (m .0) ∙ rw (ne-eqb (announcedCode tuple) bottom (m .1)),
 )
 
 -- ---- the oldest of a process

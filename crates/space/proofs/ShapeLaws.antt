@@ -1,5 +1,5 @@
 -- The parts of a shape: tests at once, a place with a kind, and what a proposal has. From the definitions.
-use mathlib.Core.Path.{_≡_, refl, ap, _∙_}
+use mathlib.Core.Path.{_≡_, ap}
 use Prim.Native.Nat.{ℕ, _≤_, _<_}
 use native.Mathlib.Omega.{arith}
 use mathlib.Core.Bool.{Bool, true, _&&_, and-eq-true-iff}
@@ -7,16 +7,13 @@ use lib.ListN.{length, List·getD-eq-default}
 use lib.Dec.{ltb, eqb}
 use borrow.Author.Tests.{ltb-true, ltb-false, eqb-true}
 use borrow.Table.Steps.{cases}
-use Rattle.space.specs.Laws.{ProposalMade}
 use Rattle.space.specs.Shapes.{isProposal, proposedCode}
 use Rattle.tuple.specs.declared.field.Field.{Field}
 use Rattle.tuple.specs.declared.field.Tuple.{Tuple}
 use Rattle.tuple.specs.Bounds.{largestCode}
 use Rattle.tuple.specs.Faults.{isEntry}
 use Rattle.tuple.specs.Fields.{word, count, offset, defined, propose, blankField, largestOf}
-use Rattle.tuple.specs.Shapes.{field, is, says}
-use Rattle.tuple.proofs.FieldLaws.{field-is, field-says}
-use Rattle.tuple.proofs.Made.{four-made}
+use Rattle.tuple.specs.Shapes.{field, is, says, hasShape}
 use Rattle.tuple.proofs.NoFault.{entry-small}
 
 pub four : (a b c d : Bool) → a && b && c && d ≡ true → (a ≡ true) × (b ≡ true) × (c ≡ true) × (d ≡ true)
@@ -37,23 +34,12 @@ within-fields tuple i kind state some h =
 
 pub proposal-parts : (tuple : Tuple) → isProposal tuple ≡ true
     → (tuple .count ≡ 4) × (says word propose (field tuple 0) ≡ true) × (is offset defined (field tuple 3) ≡ true)
-unfolding isProposal
+unfolding hasShape
 proposal-parts tuple h =
     let counts = is count defined (field tuple 1) in
     let parts = and-eq-true-iff (eqb (tuple .count) 4 && says word propose (field tuple 0) && counts && is count defined (field tuple 2)) _ .0 h in
     let head = four (eqb (tuple .count) 4) (says word propose (field tuple 0)) counts _ (parts .0) in
     (eqb-true (tuple .count) 4 (head .0), head .1, parts .1)
-
-pub proposal-made : ProposalMade
-unfolding isProposal
-proposal-made tuple six rest = (
-  λ h. let counts = is count defined (field tuple 1) in
-      let parts = and-eq-true-iff (eqb (tuple .count) 4 && says word propose (field tuple 0) && counts && is count defined (field tuple 2)) _ .0 h in
-      let head = four (eqb (tuple .count) 4) (says word propose (field tuple 0)) counts _ (parts .0) in
-      four-made tuple six rest _ _ _ _ (eqb-true (tuple .count) 4 (head .0)) (field-says word propose _ (head .1)) (field-is count defined _ (head .2) _ refl)
-      (field-is count defined _ (head .3) _ refl) (field-is offset defined _ (parts .1) _ refl),
-  λ e. ap isProposal e ∙ refl,
-)
 
 -- ---- the offset of a proposal is at most the largest
 

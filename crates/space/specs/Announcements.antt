@@ -8,21 +8,16 @@ use lib.Dec.{eqb}
 use Rattle.space.specs.declared.announcement.Announced.{Announced}
 use Rattle.space.specs.declared.announcement.Announced.the-variants.{Waits, Silent}
 use Rattle.tuple.specs.declared.field.Tuple.{Tuple}
-use Rattle.tuple.specs.Fields.{word, count, offset, defined, announcing, blankField, blankTuple}
+use Rattle.tuple.specs.Fields.{blankTuple}
+use Rattle.tuple.specs.Forms.{announcementShape}
 use Rattle.tuple.specs.Offsets.{bottom}
-use Rattle.tuple.specs.Shapes.{given, field, is, says}
+use Rattle.tuple.specs.Shapes.{field, hasShape}
 
 -- ---- an announcement
 
 -- (word 4, count process, count serial, offset shift), the shift not bottom
 unfoldable pub isAnnouncement : Tuple → Bool
-isAnnouncement tuple =
-    eqb (tuple .count) 4
-    && says word announcing (field tuple 0)
-    && is count defined (field tuple 1)
-    && is count defined (field tuple 2)
-    && is offset defined (field tuple 3)
-    && not (eqb (field tuple 3 .value) bottom)
+isAnnouncement tuple = hasShape announcementShape tuple && not (eqb (field tuple 3 .value) bottom)
 
 -- its process, its serial, and the code of its shift
 abbrev pub announcerOf : Tuple → ℕ
@@ -33,11 +28,6 @@ announcedSerial tuple = field tuple 2 .value
 
 abbrev pub announcedCode : Tuple → ℕ
 announcedCode tuple = field tuple 3 .value
-
--- the one of a process, a serial and the code of a shift
-abbrev pub announcement : ℕ → ℕ → ℕ → Tuple
-announcement process serial code =
-    record { count = 4; fields = given word announcing ∷ given count process ∷ given count serial ∷ given offset code ∷ blankField ∷ blankField ∷ [] }
 
 -- ---- what is announced
 

@@ -2,26 +2,26 @@
 use mathlib.Core.Path.{_≡_}
 use mathlib.Core.Logic.{_↔_, _⊎_}
 use mathlib.Core.Bool.{Bool, true, false}
-use mathlib.Core.List.{List, [], _∷_}
+use mathlib.Core.List.{List}
 use Prim.Native.Nat.{ℕ, _+_, _*_, _≤_, _<_}
 use lib.Count.{ones}
 use lib.IntN.{pos}
-use lib.ListN.{length, getD}
+use lib.ListN.{getD}
 use Rattle.space.specs.declared.config.Config.{Config}
 use Rattle.space.specs.declared.proposal.Sought.the-variants.{One, Some, Any}
 use Rattle.space.specs.declared.space.Space.{Space}
 use Rattle.space.specs.declared.announcement.Announced.the-variants.{Waits, Silent}
-use Rattle.space.specs.Announcements.{isAnnouncement, announcement, announcerOf, announcedSerial, announcedCode, announcedOf, Announcing, Oldest}
+use Rattle.space.specs.Announcements.{isAnnouncement, announcerOf, announcedSerial, announcedCode, announcedOf, Announcing, Oldest}
 use Rattle.space.specs.Configs.{sound, hasProposals, hasList}
-use Rattle.space.specs.Lists.{isListTuple, listTuple, positionOf, serialOf, shiftCode, isFilled, isListed, Filled, Listed}
+use Rattle.space.specs.Lists.{isListTuple, positionOf, serialOf, shiftCode, isFilled, isListed, Filled, Listed}
 use Rattle.space.specs.Members.{Member, within, every, counted}
 use Rattle.space.specs.Proposals.{offered, decidable, proposed, backers, crowded, Placed, Proposed}
-use Rattle.space.specs.Shapes.{isProposal, processOf}
+use Rattle.space.specs.Shapes.{processOf}
 use Rattle.space.specs.Spaces.{wellFormed, Typed, Tidy}
 use Rattle.tuple.specs.declared.field.Tuple.{Tuple}
 use Rattle.tuple.specs.declared.offset.Offset.{Offset}
 use Rattle.tuple.specs.declared.offset.Offset.the-variants.{Bottom, Hundredths}
-use Rattle.tuple.specs.Faults.{isEntry, restBlank}
+use Rattle.tuple.specs.Faults.{isEntry}
 use Rattle.tuple.specs.Fields.{blankTuple}
 use Rattle.tuple.specs.Offsets.{inRange, codeOf}
 use Rattle.tuple.specs.Shapes.{field}
@@ -64,28 +64,6 @@ TallyRule =
     → (q : ℕ) × ((k : ℕ) → Member k q ↔ (Member k set × (test k ≡ true))) × (ones q ≡ counted test n 1 set)
 
 -- ---- proposals
-
--- (word 1, count r, count q, offset v), in numbers: kinds 1 word, 2 count, 3 offset; state 0
-abbrev pub proposalOf : ℕ → ℕ → ℕ → Tuple
-proposalOf round process code =
-    record {
-      count = 4;
-      fields = record { kind = 1; state = 0; value = 1 }
-          ∷ record { kind = 2; state = 0; value = round }
-          ∷ record { kind = 2; state = 0; value = process }
-          ∷ record { kind = 3; state = 0; value = code }
-          ∷ record { kind = 0; state = 0; value = 0 }
-          ∷ record { kind = 0; state = 0; value = 0 }
-          ∷ [];
-    }
-
--- of a tuple of six places whose unused parts are zero: it is a proposal exactly when it is that of its second, third and fourth field
-abbrev pub ProposalMade : Type 0
-ProposalMade =
-    (tuple : Tuple)
-    → length (tuple .fields) ≡ 6
-    → restBlank tuple true ≡ true
-    → (isProposal tuple ≡ true) ↔ (tuple ≡ proposalOf (field tuple 1 .value) (field tuple 2 .value) (field tuple 3 .value))
 
 -- every offset in range may be proposed but bottom, unless the policy is 3
 abbrev pub OfferedRule : Type 0
@@ -142,14 +120,6 @@ ListTupleRule =
     (tuple : Tuple)
     → (isListTuple tuple ≡ true) ↔ ListTuple tuple (positionOf tuple) (processOf tuple) (serialOf tuple) (shiftCode tuple)
 
--- an entry that is one has nothing else: it is what is made of these
-abbrev pub ListTupleMade : Type 0
-ListTupleMade =
-    (tuple : Tuple)
-    → isEntry tuple ≡ true
-    → length (tuple .fields) ≡ 6
-    → (isListTuple tuple ≡ true) ↔ (tuple ≡ listTuple (positionOf tuple) (processOf tuple) (serialOf tuple) (shiftCode tuple))
-
 -- a position is filled exactly when such a tuple stands
 abbrev pub FilledRule : Type 0
 FilledRule = (tuples : List Tuple) (position : ℕ) → (isFilled tuples position ≡ true) ↔ Filled tuples position
@@ -174,15 +144,6 @@ AnnouncementRule =
     (tuple : Tuple) (process serial code : ℕ)
     → ((isAnnouncement tuple ≡ true) × (announcerOf tuple ≡ process) × (announcedSerial tuple ≡ serial) × (announcedCode tuple ≡ code))
     ↔ Announcement tuple process serial code
-
--- one of six places whose unused parts are zero has nothing else: it is what is made of these
-abbrev pub AnnouncementMade : Type 0
-AnnouncementMade =
-    (tuple : Tuple)
-    → length (tuple .fields) ≡ 6
-    → restBlank tuple true ≡ true
-    → (isAnnouncement tuple ≡ true)
-    ↔ ((tuple ≡ announcement (announcerOf tuple) (announcedSerial tuple) (announcedCode tuple)) × (announcedCode tuple ≡ 0 → ⊥))
 
 -- what a process has announced is its oldest announcement, and nothing exactly when none stands
 pub record AnnouncedRule (tuples : List Tuple) (process : ℕ) : Type 0 where

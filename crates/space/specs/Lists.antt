@@ -8,20 +8,14 @@ use Rattle.space.specs.declared.list.Wanted.{Wanted}
 use Rattle.space.specs.declared.list.Wanted.the-variants.{Position, Serial}
 use Rattle.space.specs.Shapes.{processOf}
 use Rattle.tuple.specs.declared.field.Tuple.{Tuple}
-use Rattle.tuple.specs.Fields.{word, count, offset, defined, listing, blankField}
-use Rattle.tuple.specs.Shapes.{given, field, is, says}
+use Rattle.tuple.specs.Forms.{listTupleShape}
+use Rattle.tuple.specs.Shapes.{field, hasShape}
 
 -- ---- a list tuple
 
 -- (word 3, count position, count process, count serial, offset shift)
-unfoldable pub isListTuple : Tuple → Bool
-isListTuple tuple =
-    eqb (tuple .count) 5
-    && says word listing (field tuple 0)
-    && is count defined (field tuple 1)
-    && is count defined (field tuple 2)
-    && is count defined (field tuple 3)
-    && is offset defined (field tuple 4)
+abbrev pub isListTuple : Tuple → Bool
+isListTuple tuple = hasShape listTupleShape tuple
 
 -- its position, its serial, and the code of its shift; its process stands where a proposal's does (`processOf`)
 abbrev pub positionOf : Tuple → ℕ
@@ -32,11 +26,6 @@ serialOf tuple = field tuple 3 .value
 
 abbrev pub shiftCode : Tuple → ℕ
 shiftCode tuple = field tuple 4 .value
-
--- the one of a position, a process, a serial and the code of a shift
-abbrev pub listTuple : ℕ → ℕ → ℕ → ℕ → Tuple
-listTuple position process serial code =
-    record { count = 5; fields = given word listing ∷ given count position ∷ given count process ∷ given count serial ∷ given offset code ∷ blankField ∷ [] }
 
 -- ---- what is listed
 

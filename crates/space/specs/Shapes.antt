@@ -1,16 +1,15 @@
 -- Document 01, "Policies": the shape of a proposal, and its parts.
 use Prim.Native.Nat.{ℕ}
-use mathlib.Core.Bool.{Bool, _&&_}
-use lib.Dec.{ltb, eqb}
+use mathlib.Core.Bool.{Bool}
+use lib.Dec.{ltb}
 use Rattle.space.specs.Bounds.{rounds}
 use Rattle.tuple.specs.declared.field.Tuple.{Tuple}
-use Rattle.tuple.specs.Fields.{word, count, offset, defined, propose}
-use Rattle.tuple.specs.Shapes.{field, is, says}
+use Rattle.tuple.specs.Forms.{proposalShape}
+use Rattle.tuple.specs.Shapes.{field, hasShape}
 
 -- (word 1, count r, count p, offset v)
-unfoldable pub isProposal : Tuple → Bool
-isProposal tuple =
-    eqb (tuple .count) 4 && says word propose (field tuple 0) && is count defined (field tuple 1) && is count defined (field tuple 2) && is offset defined (field tuple 3)
+abbrev pub isProposal : Tuple → Bool
+isProposal tuple = hasShape proposalShape tuple
 
 -- the round of a proposal, or of a decision
 abbrev pub roundOf : Tuple → ℕ

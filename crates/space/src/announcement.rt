@@ -4,18 +4,12 @@ ghost use Rattle.space.specs.declared.announcement.Announced.the-variant
 ghost use Rattle.space.specs.Announcements.{isAnnouncement, announcedSerial, announcedCode, announces as announces·, announcedOf};
 ghost use Rattle.space.specs.Spaces.{held};
 use crate::space::Space;
-use tuple::ANNOUNCING;
+use tuple::ANNOUNCEMENT;
 use tuple::BOTTOM;
-use tuple::COUNT;
-use tuple::DEFINED;
-use tuple::OFFSET;
 use tuple::TUPLES;
 use tuple::Tuple;
-use tuple::WORD;
-use tuple::all_five;
-use tuple::is;
+use tuple::has_shape;
 use tuple::least;
-use tuple::says;
 
 // What a process has announced.
 pub enum Announced {
@@ -29,18 +23,8 @@ pub enum Announced {
 pub fn is_announcement(tuple: Tuple) -> bool
     ensures { λ r. ⌜ r ≡ isAnnouncement tuple ⌝ }
 {
-    let first = tuple.fields[0];
-    let second = tuple.fields[1];
-    let third = tuple.fields[2];
     let fourth = tuple.fields[3];
-    let shaped = all_five(
-        tuple.count == 4,
-        says(first, WORD, ANNOUNCING),
-        is(second, COUNT, DEFINED),
-        is(third, COUNT, DEFINED),
-        is(fourth, OFFSET, DEFINED),
-    );
-    if shaped {
+    if has_shape(tuple, ANNOUNCEMENT) {
         fourth.value != BOTTOM
     } else {
         false

@@ -3,17 +3,11 @@ ghost use mathlib.Core.Path.{_≡_};
 ghost use Rattle.space.specs.Lists.{isListTuple, isWanted, lists as lists·, isThere, isFilled, isListed};
 ghost use Rattle.space.specs.Spaces.{held};
 use crate::space::Space;
-use tuple::COUNT;
-use tuple::DEFINED;
-use tuple::LISTING;
-use tuple::OFFSET;
+use tuple::LIST_TUPLE;
 use tuple::TUPLES;
 use tuple::Tuple;
-use tuple::WORD;
-use tuple::all_five;
-use tuple::is;
+use tuple::has_shape;
 use tuple::least;
-use tuple::says;
 
 // Which list tuples are looked for.
 enum Wanted {
@@ -27,23 +21,7 @@ enum Wanted {
 pub fn is_list_tuple(tuple: Tuple) -> bool
     ensures { λ r. ⌜ r ≡ isListTuple tuple ⌝ }
 {
-    let first = tuple.fields[0];
-    let second = tuple.fields[1];
-    let third = tuple.fields[2];
-    let fourth = tuple.fields[3];
-    let fifth = tuple.fields[4];
-    let named = all_five(
-        tuple.count == 5,
-        says(first, WORD, LISTING),
-        is(second, COUNT, DEFINED),
-        is(third, COUNT, DEFINED),
-        is(fourth, COUNT, DEFINED),
-    );
-    if named {
-        is(fifth, OFFSET, DEFINED)
-    } else {
-        false
-    }
+    has_shape(tuple, LIST_TUPLE)
 }
 
 // Whether a list tuple of this position stands in the space.

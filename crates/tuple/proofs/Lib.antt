@@ -4,9 +4,9 @@ pub mod FaultRules
 pub mod FieldLaws
 pub mod Lengths
 pub mod Lists
-pub mod Made
 pub mod MatchRules
 pub mod MatchingLaws
 pub mod NoFault
 pub mod OffsetLaws
 pub mod RefusalLaws
+pub mod ShapeLaws

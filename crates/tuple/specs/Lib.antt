@@ -2,8 +2,10 @@ pub mod Bounds
 pub mod FaultLaws
 pub mod Faults
 pub mod Fields
+pub mod Forms
 pub mod Laws
 pub mod Matching
 pub mod Offsets
 pub mod Refusals
+pub mod ShapeLaws
 pub mod Shapes

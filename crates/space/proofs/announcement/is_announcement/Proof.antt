@@ -1,75 +1,23 @@
 -- `space::is_announcement` meets its contract: its tests are the definition's.
 use borrow.Author.Needs.{needs}
-use mathlib.Core.Path.{_≡_, sym, ap, _∙_}
-use mathlib.Core.Bool.{Bool, not, _&&_}
-use lib.Dec.{eqb}
+use mathlib.Core.Path.{sym, _∙_}
 use Rattle.space.specs.Announcements.{isAnnouncement}
-use Rattle.tuple.specs.Fields.{word, count, offset, defined, announcing}
-use Rattle.tuple.specs.Offsets.{bottom}
-use Rattle.tuple.specs.Shapes.{field, is, says}
 use Rattle.space.proofs.announcement.is_announcement.Statement.{statement}
 use Rattle.space.proofs.announcement.is_announcement.Tie as tie
-
-element-copy-out-first : tie.Need-element-copy-out-first
-element-copy-out-first c = search needs
-
-element-copy-out-second : tie.Need-element-copy-out-second
-element-copy-out-second c = search needs
-
-element-copy-out-third : tie.Need-element-copy-out-third
-element-copy-out-third c = search needs
 
 element-copy-out-fourth : tie.Need-element-copy-out-fourth
 element-copy-out-fourth c = search needs
 
-says-requires : tie.Need-says-requires
-says-requires c κs = search needs
-
-is-requires : tie.Need-is-requires
-is-requires c κs = search needs
-
-is-requires-2 : tie.Need-is-requires-2
-is-requires-2 c κs = search needs
-
-is-requires-3 : tie.Need-is-requires-3
-is-requires-3 c κs = search needs
-
-all-five-requires : tie.Need-all-five-requires
-all-five-requires c κs = search needs
-
--- the first five tests
-front : (c : tie.After-all-five) → let tuple = c .before .before .before .before .before .before .before .before .before .args .t1 in
-    isAnnouncement tuple ≡ c .all-five .result && not (eqb (field tuple 3 .value) bottom)
-unfolding isAnnouncement
-front c =
-    let s = c .before .before .before .before in
-    let tuple = s .before .before .before .before .before .args .t1 in
-    let said : s .says .result ≡ says word announcing (field tuple 0) = s .says .ensures in
-    let second : c .before .before .before .is .result ≡ is count defined (field tuple 1) = c .before .before .before .is .ensures in
-    let third : c .before .before .is2 .result ≡ is count defined (field tuple 2) = c .before .before .is2 .ensures in
-    let fourth : c .before .is3 .result ≡ is offset defined (field tuple 3) = c .before .is3 .ensures in
-    let all : c .all-five .result ≡ (eqb (tuple .count) 4 && says word announcing (field tuple 0) && is count defined (field tuple 1) && is count defined (field tuple 2) && is offset defined (field tuple 3)) =
-    rw (said, second, third, fourth) at (c .all-five .ensures) in
-    ap (λ (shaped : Bool). shaped && not (eqb (field tuple 3 .value) bottom)) (sym all)
+has-shape-requires : tie.Need-has-shape-requires
+has-shape-requires c κs = search needs
 
 returns : tie.Need-returns
-returns c = sym (front (c .before .before) ∙ rw (c .before .if1 .taken))
+unfolding isAnnouncement
+returns c = sym (rw (sym (c .before .before .has-shape .ensures) ∙ c .before .if1 .taken))
 
 returns-2 : tie.Need-returns-2
-returns-2 c = sym (front (c .before) ∙ rw (c .if1 .left))
+unfolding isAnnouncement
+returns-2 c = sym (rw (sym (c .before .has-shape .ensures) ∙ c .if1 .left))
 
 pub is-announcement-spec : {M : Type 1} → statement M
-is-announcement-spec =
-    tie.close
-    (tie.spec
-    element-copy-out-first
-    element-copy-out-second
-    element-copy-out-third
-    element-copy-out-fourth
-    says-requires
-    is-requires
-    is-requires-2
-    is-requires-3
-    all-five-requires
-    returns
-    returns-2)
+is-announcement-spec = tie.close (tie.spec element-copy-out-fourth has-shape-requires returns returns-2)

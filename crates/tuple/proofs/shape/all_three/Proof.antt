@@ -1,8 +1,7 @@
--- `policy::listing::all_three` meets its contract: its tests are the definition's.
-use borrow.Author.Needs.{needs}
+-- `tuple::shape::all_three` meets its contract: its tests are the definition's.
 use borrow.Author.Tests.{not-true, not-false}
-use Rattle.policy.proofs.listing.all_three.Statement.{statement}
-use Rattle.policy.proofs.listing.all_three.Tie as tie
+use Rattle.tuple.proofs.shape.all_three.Statement.{statement}
+use Rattle.tuple.proofs.shape.all_three.Tie as tie
 
 returns : tie.Need-returns
 returns c = rw (not-true (c .before .args .a) (c .if1 .taken))

@@ -1,8 +1,8 @@
--- `policy::listing::is_undefined` meets its contract: its tests are the definition's.
+-- `tuple::shape::is_undefined` meets its contract: its tests are the definition's.
 use borrow.Author.Needs.{needs}
 use mathlib.Core.Path.{sym, _∙_}
-use Rattle.policy.proofs.listing.is_undefined.Statement.{statement}
-use Rattle.policy.proofs.listing.is_undefined.Tie as tie
+use Rattle.tuple.proofs.shape.is_undefined.Statement.{statement}
+use Rattle.tuple.proofs.shape.is_undefined.Tie as tie
 
 is-requires : tie.Need-is-requires
 is-requires c κs = search needs

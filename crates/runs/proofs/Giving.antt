@@ -1,11 +1,12 @@
--- What gives out a decision, exactly, from the definition and the coding of offsets. All else that asks what gave one out goes through this.
+-- Who has decided, and what gives out a decision, exactly, from the definitions and the coding of offsets. All else that asks what gave one out goes
+-- through this.
 use mathlib.Core.Path.{_≡_, refl, sym, ap, ap₂, _∙_, subst}
 use mathlib.Core.List.{List, List·Memᴰ}
 use mathlib.Core.Logic.{inl, inr}
 use Prim.Native.Nat.{ℕ}
 use Rattle.runs.specs.Decisions.{Decision, GivenOut}
 use Rattle.runs.specs.Decisions.GivenOut.{by-inserted, by-held, by-state}
-use Rattle.runs.specs.Laws.{Says, Giver, GivenOutRule}
+use Rattle.runs.specs.Laws.{Says, Giver, HasDecidedRule, GivenOutRule}
 use Rattle.space.specs.declared.config.Config.{Config}
 use Rattle.space.specs.Shapes.{roundOf}
 use Rattle.policy.specs.Shapes.{decidedCode}
@@ -16,6 +17,9 @@ use Rattle.tuple.specs.declared.offset.Offset.{Offset}
 use Rattle.tuple.specs.declared.reply.Outcome.the-variants.{Inserted, Held}
 use Rattle.tuple.specs.Offsets.{offsetOf}
 use Rattle.tuple.proofs.OffsetLaws.{one-to-one}
+
+pub has-decided-rule : HasDecidedRule
+has-decided-rule config calls process d = (λ has. (has .correct, has .given), λ both. record { correct = both .0; given = both .1 })
 
 -- the decision of a tuple
 abbrev pub decisionOf : Tuple → Decision

@@ -7,6 +7,7 @@ pub mod Casting
 pub mod Choosing
 pub mod Configs
 pub mod Counts
+pub mod Demands
 pub mod Fair
 pub mod Faulty
 pub mod Firmness

@@ -3,6 +3,7 @@ use native.Mathlib.Omega.{arith}
 use Rattle.runs.specs.Laws.{Firm}
 use Rattle.runs.specs.Theorem.{RunTheorem}
 use Rattle.runs.proofs.Agreement.{agreement}
+use Rattle.runs.proofs.Demands.{demanded}
 use Rattle.runs.proofs.Firmness as firmness
 use Rattle.runs.proofs.Firmness.{unanimity}
 use Rattle.runs.proofs.Going.{logged}
@@ -13,7 +14,7 @@ use Rattle.runs.proofs.Validity.{validity}
 pub run-theorem : RunTheorem
 run-theorem config calls safe =
     record {
-      answered = answered config calls;
+      answered = λ before behind call split. (answered config calls before behind call split, demanded safe before call);
       agreement = agreement safe (logged config calls safe);
       validity = validity safe (logged config calls safe);
       unanimity = unanimity safe (logged config calls safe);

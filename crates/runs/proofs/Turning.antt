@@ -56,7 +56,7 @@ module _ (config : Config) where
   unfolding turnsFrom lastOf
   last-more before call = last-append before (call ∷ [])
 
-  -- the first field of `Run`
+  -- the first half of the first field of `Run`
   pub answered : (calls before behind : List Call) (call : Call) → calls ≡ before ++ (call ∷ behind)
       → turns config calls ≡ turns config before ++ (turnOn (last config before) call ∷ turnsFrom (applied (last config before) call .space) behind)
   unfolding turnsFrom

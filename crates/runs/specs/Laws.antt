@@ -153,6 +153,12 @@ WrongRule =
 
 -- ---- what is given out, and how many are faulty
 
+-- a process has decided exactly if it is correct and the decision is among those that its own states gave (`MonitorRule` says how these grow)
+abbrev pub HasDecidedRule : Type 0
+HasDecidedRule =
+    (config : Config) (calls : List Call) (process : ℕ) (d : Decision)
+    → HasDecided config calls process d ↔ (Correct config calls process × List·Memᴰ d (decisionsOf config calls process))
+
 -- the decision that (word 2, count r, offset v, seats P) says: the value of its second field is r, and that of its third the number that stands for v
 pub record Says (tuple : Tuple) (d : Decision) : Type 0 where
   pub second : field tuple 1 .value ≡ d .round

@@ -2,16 +2,21 @@
 use mathlib.Core.Path.{_≡_}
 use mathlib.Core.Bool.{true, not}
 use mathlib.Core.List.{List, _∷_, _++_}
-use mathlib.Core.Logic.{_↔_}
+use mathlib.Core.Logic.{_↔_, _⊎_}
 use Prim.Native.Nat.{ℕ, _+_, _-_, _*_, _≤_}
 use Rattle.runs.specs.Correct.{Correct, correct, amount}
 use Rattle.runs.specs.Decisions.{Decision, DoneProposal, hasDoneProposal, GivenOut, HasDecided, callsOf}
 use Rattle.space.specs.declared.config.Config.{Config}
 use Rattle.space.specs.declared.space.Space.{Space}
+use Rattle.space.specs.Spaces.{wellFormed, Tidy}
+use Rattle.calls.specs.Laws.{RefusedBy, Obeyed, ObeyedRule}
 use Rattle.calls.specs.Turns.{last, Turn, applied, turnsFrom, turns}
 use Rattle.tuple.specs.declared.field.Call.{Call}
 use Rattle.tuple.specs.declared.offset.Offset.{Offset}
 use Rattle.tuple.specs.declared.offset.Offset.the-variants.{Bottom}
+use Rattle.tuple.specs.declared.refusal.Refusal.{Refusal}
+use Rattle.tuple.specs.declared.reply.Outcome.the-variants.{Refused}
+use Rattle.tuple.specs.Laws.{nothing}
 
 -- ---- the hypotheses
 
@@ -36,10 +41,25 @@ FewFaulty config calls = amount (λ process. not (correct config calls process))
 abbrev pub turnOn : Space → Call → Turn
 turnOn space call = record { call = call; reply = applied space call .reply; space = applied space call .space }
 
+-- a turn on a space as demand 2 has it
+pub record Demanded (space : Space) (turn : Turn) : Type 0 where
+  -- the space is well formed, and nothing but its configuration and its tuples
+  pub stands : (wellFormed space ≡ true) × Tidy space
+  -- the reply and the space left are those that the laws of a call speak of
+  pub same : (turn .reply ≡ applied space (turn .call) .reply) × (turn .space ≡ applied space (turn .call) .space)
+  -- each refusal comes exactly when, answers no tuple and leaves the space as it was
+  pub refused : (why : Refusal) → (turn .reply .outcome ≡ Refused why) ↔ RefusedBy space (turn .call) why
+  pub unchanged : (why : Refusal) → turn .reply .outcome ≡ Refused why → (turn .reply .tuple ≡ nothing) × (turn .space ≡ space)
+  -- a call that is not refused is obeyed: it answers and leaves what its code says
+  pub either : ((why : Refusal) × (turn .reply .outcome ≡ Refused why)) ⊎ Obeyed space (turn .call)
+  pub obeyed : Obeyed space (turn .call) → ObeyedRule space (turn .call)
+
 pub record Run (config : Config) (calls : List Call) : Type 0 where
-  -- each call is answered, and changes the space, as `applied` has it on the space that the calls before it left; this asks nothing of processes
+  -- each call is answered, and changes the space, as `applied` has it on the space that the calls before it left, and that is as demand 2 has it; this
+  -- asks nothing of processes
   pub answered : (before behind : List Call) (call : Call) → calls ≡ before ++ (call ∷ behind)
-      → turns config calls ≡ turns config before ++ (turnOn (last config before) call ∷ turnsFrom (applied (last config before) call .space) behind)
+      → (turns config calls ≡ turns config before ++ (turnOn (last config before) call ∷ turnsFrom (applied (last config before) call .space) behind))
+      × Demanded (last config before) (turnOn (last config before) call)
   -- any two decisions are equal exactly when their rounds are, however many are faulty
   pub agreement : (d e : Decision) → GivenOut config calls d → GivenOut config calls e → (d ≡ e) ↔ (d .round ≡ e .round)
   -- a decided offset other than bottom was proposed in that round by a correct process

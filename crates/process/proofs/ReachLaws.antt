@@ -1,8 +1,8 @@
--- A state is well formed exactly if the procedure reaches it by fitting replies. From the laws of states and of what comes next.
-use mathlib.Core.Path.{_≡_, refl, sym, _∙_}
+-- A state is well formed exactly if the procedure reaches it by fitting replies, and those are one list from a start. From the laws of states and of what comes next.
+use mathlib.Core.Path.{_≡_, refl, sym, ap, _∙_}
 use mathlib.Core.Logic.{_⊎_, inl, inr, ⊎-elim}
 use mathlib.Core.Bool.{true, false, false≢true, and-eq-true-iff}
-use mathlib.Core.List.{List, [], _∷_}
+use mathlib.Core.List.{List, [], _∷_, _++_}
 use Prim.Native.Nat.{ℕ, zero, suc, _+_, _-_, _≤_, _<_}
 use native.Mathlib.Omega.{arith}
 use lib.Dec.{leb, eqb}
@@ -15,8 +15,8 @@ use Rattle.process.specs.declared.process.Phase.{Phase}
 use Rattle.process.specs.declared.process.Phase.the-variants.{Proposing, Reading, Deciding, Decided}
 use Rattle.process.specs.declared.process.Process.{Process}
 use Rattle.process.specs.Fits.{fits}
-use Rattle.process.specs.Laws.{ReachableRule, NextRule}
-use Rattle.process.specs.Procedure.{readOn}
+use Rattle.process.specs.Laws.{ReachableRule, ReachedRule, led, EachFits, LedTo, NextRule}
+use Rattle.process.specs.Procedure.{readOn, advanced}
 use Rattle.process.specs.Reachable.{Reachable, starts, resumes}
 use Rattle.process.specs.States.{noneFound, foundSound, phaseSound}
 use Rattle.process.specs.Tallies.{foundOf, backs, backing, settled, nextAfter}
@@ -241,4 +241,48 @@ pub reachable-rule : ReachableRule
 reachable-rule p typed = (
   λ formed. let parts = formed-parts p .0 formed in reach (p .config) (p .process) (p .round) (parts .0) (p .phase) (p .found) typed (parts .1),
   λ r. reached-kept r .0,
+)
+
+-- ---- one list of replies
+
+abbrev stepped : Process → Reply → Process
+stepped state reply = advanced state reply (state .phase) .process
+
+led-more : (state : Process) (replies : List Reply) (reply : Reply) → led state (replies ++ (reply ∷ [])) ≡ stepped (led state replies) reply
+unfolding led
+led-more state [] reply = refl
+led-more state (first ∷ rest) reply = led-more (stepped state first) rest reply
+
+fits-more : (state : Process) (replies : List Reply) (reply : Reply) → EachFits state replies → fits (led state replies) reply ≡ true
+    → EachFits state (replies ++ (reply ∷ []))
+unfolding led
+fits-more state [] reply each fit = (fit, tt)
+fits-more state (first ∷ rest) reply each fit = (each .0, fits-more (stepped state first) rest reply (each .1) fit)
+
+led-to : {state : Process} → Reachable state → LedTo state
+unfolding led
+led-to (starts config process round offset calls) =
+    record { config = config; process = process; round = round; offset = offset; starts = calls; replies = []; fit = tt; ends = refl }
+led-to (resumes state reply before fit) =
+    let to = led-to before in
+    record {
+      config = to .config;
+      process = to .process;
+      round = to .round;
+      offset = to .offset;
+      starts = to .starts;
+      replies = to .replies ++ (reply ∷ []);
+      fit = fits-more _ (to .replies) reply (to .fit) (rw (to .ends) fit);
+      ends = led-more _ (to .replies) reply ∙ ap (λ (p : Process). stepped p reply) (to .ends);
+    }
+
+reached-by : (state : Process) (replies : List Reply) → Reachable state → EachFits state replies → Reachable (led state replies)
+unfolding led
+reached-by state [] r each = r
+reached-by state (reply ∷ rest) r each = reached-by (stepped state reply) rest (resumes state reply r (each .0)) (each .1)
+
+pub reached-rule : ReachedRule
+reached-rule state = (
+  led-to,
+  λ to. rw (to .ends) at (reached-by _ (to .replies) (starts (to .config) (to .process) (to .round) (to .offset) (to .starts)) (to .fit)),
 )

@@ -13,7 +13,7 @@ use Rattle.process.specs.declared.process.Process.{Process}
 use Rattle.process.specs.declared.process.Step.{Step}
 use Rattle.process.specs.Asks.{rdpCall, casCall}
 use Rattle.process.specs.Fits.{fits}
-use Rattle.process.specs.Procedure.{started, resumed}
+use Rattle.process.specs.Procedure.{started, advanced, resumed}
 use Rattle.process.specs.Reachable.{Reachable}
 use Rattle.process.specs.States.{startable, foundSound, wellFormed}
 use Rattle.process.specs.Tallies.{backing, backingSet, backed, settled, total, nextAfter}
@@ -49,6 +49,31 @@ noProcess = record { config = record { n = 0; t = 0; policy = 0; k = 0 }; proces
 -- a state is well formed exactly if the procedure can reach it by fitting replies; its type says that it has a place for each process
 abbrev pub ReachableRule : Type 0
 ReachableRule = (process : Process) → length (process .found) ≡ 15 → (wellFormed process ≡ true) ↔ Reachable process
+
+-- the state that replies, handed in one behind the other, lead to; `advanced` asks nothing of the state
+unfoldable pub led : Process → List Reply → Process
+led process [] = process
+led process (reply ∷ rest) = led (advanced process reply (process .phase) .process) rest
+
+-- each fits the state that those before it led to
+abbrev pub EachFits : Process → List Reply → Type 0
+EachFits process [] = Unit {0}
+EachFits process (reply ∷ rest) = (fits process reply ≡ true) × EachFits (advanced process reply (process .phase) .process) rest
+
+-- fitting replies lead to it from a start that is not refused
+pub record LedTo (state : Process) : Type 0 where
+  pub config : Config
+  pub process : ℕ
+  pub round : ℕ
+  pub offset : Offset
+  pub starts : started config process round offset .next ≡ Calls
+  pub replies : List Reply
+  pub fit : EachFits (started config process round offset .process) replies
+  pub ends : led (started config process round offset .process) replies ≡ state
+
+-- which states are reached, exactly
+abbrev pub ReachedRule : Type 0
+ReachedRule = (process : Process) → Reachable process ↔ LedTo process
 
 -- so well formed is what a start that is not refused gives, and what a fitting reply makes of a well-formed state, each with 15 places
 pub record FormedRule : Type 0 where

@@ -22,7 +22,7 @@ use Rattle.calls.specs.Turns.{turnsFrom}
 use Rattle.record.specs.Reading.{place}
 use Rattle.script.specs.Laws.{Written}
 use Rattle.script.specs.Scripts.{Records, Opened, scriptBytes, setUpBytes, configOf, recordsBytes, recordsAt, ranOn, ran}
-use Rattle.script.proofs.SetUpLaws.{set-up-read}
+use Rattle.script.proofs.SetUpLaws.{set-up-read, set-up-written}
 use Rattle.space.specs.declared.config.Config.{Config}
 use Rattle.space.specs.declared.space.Space.{Space}
 use Rattle.space.specs.Configs.{sound}
@@ -80,7 +80,7 @@ module _ (space : Space) (typed : Typed space) (dumpable : Dumpable space) where
       let safe = formed-sound space (dumpable .formed) in
       let s = dumpBytes space in
       let again = back space typed dumpable in
-      let set-up = set-up-read config (recordsBytes calls) (writable config safe) in
+      let set-up = set-up-read config (setUpBytes config) (recordsBytes calls) (set-up-written config (writable config safe)) in
       let records = records-back s script-bytes calls (calls-sound space typed dumpable) (length (setUpBytes config))
       (drop-append-seam (setUpBytes config) (recordsBytes calls)) in
       let few : length s ≤ scriptBytes = omega (arith, dump-most space typed dumpable) in

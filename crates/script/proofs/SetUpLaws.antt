@@ -1,5 +1,5 @@
 -- n, t, the policy number and, under policy 3, k are read at the start of a script. From the law that a number which is written reads back.
-use mathlib.Core.Path.{_≡_, refl, sym, ap, _∙_}
+use mathlib.Core.Path.{_≡_, refl, sym, ap, _∙_, subst}
 use mathlib.Core.Bool.{Bool, cond}
 use mathlib.Core.List.{List, [], _∷_, _++_, append-assoc, append-nil}
 use Prim.Native.Nat.{ℕ, _+_, _≤_}
@@ -7,17 +7,30 @@ use native.Mathlib.Omega.{arith}
 use lib.Dec.{eqb}
 use lib.ListN.{length, drop, length-append}
 use lib.Seq.{drop-drop, drop-append-seam}
-use borrow.Author.Tests.{eqb-false}
+use borrow.Author.Tests.{eqb-true, eqb-false, ne-eqb}
 use borrow.Table.Steps.{cases}
 use Rattle.script.specs.declared.setup.ReadConfig.{ReadConfig}
-use Rattle.script.specs.Laws.{SetUpRead, SetUpCut}
-use Rattle.script.specs.Scripts.{kStep, behindPolicy, configOf, setUpBytes}
+use Rattle.script.specs.Laws.{SetUpForm, SetUpRead, SetUpStands, SetUpOnly, SetUpWritten, SetUpStops, SetUpFaults, SetUpCut}
+use Rattle.script.specs.Laws.SetUpForm.{without-k, with-k}
+use Rattle.script.specs.Laws.SetUpStops.{n-unread, t-unread, policy-unread, k-unread}
+use Rattle.script.specs.Scripts.{noConfig, kStep, behindPolicy, policyStep, tStep, configOf, setUpBytes}
+use Rattle.record.specs.declared.reader.Next.{Next}
+use Rattle.record.specs.declared.reader.Next.the-variants.{Refused}
 use Rattle.record.specs.declared.reader.ReadNumber.{ReadNumber}
-use Rattle.record.specs.Reading.{place, numberStep, readNumber}
+use Rattle.record.specs.FirstFault.{Unread}
+use Rattle.record.specs.FirstFault.Unread.{cut, overlong}
+use Rattle.record.specs.Reading.{place, onward, numberStep, readNumber}
+use Rattle.record.proofs.FirstFault.{first-faults}
 use Rattle.record.proofs.ReadBack.{number-back}
 use Rattle.space.specs.declared.config.Config.{Config}
-use Rattle.varint.specs.Reading.{largest, further, numberFrom, numberAt}
+use Rattle.tuple.specs.declared.refusal.Refusal.{Refusal}
+use Rattle.tuple.specs.Refusals.{numberOf, refusal}
+use Rattle.tuple.proofs.RefusalLaws.{numbered}
+use Rattle.varint.specs.declared.Number.{Number}
+use Rattle.varint.specs.declared.Number.the-variants.{Value, Cut, Overlong}
+use Rattle.varint.specs.Reading.{largest, further, numberFrom, numberAt, Bytes}
 use Rattle.varint.specs.Writing.{bytesOf, widthOf}
+use Rattle.varint.proofs.ReadingLaws.{only-form}
 
 -- what reading a set-up gives
 abbrev reads : Config → ℕ → ReadConfig
@@ -25,6 +38,10 @@ reads config next = record { next = place next; config = config }
 
 abbrev with : ℕ → ℕ → ℕ → ℕ → Config
 with n t policy k = record { n = n; t = t; policy = policy; k = k }
+
+-- the place behind the set-up, or 0
+abbrev end : ReadConfig → ℕ
+end read = onward (read .next) (λ at. at) (λ next. 0)
 
 -- what stands behind a part
 behind : (s a b : List ℕ) (at : ℕ) → drop at s ≡ a ++ b → drop (at + length a) s ≡ b
@@ -61,37 +78,166 @@ module _ (n t policy : ℕ) (tail : List ℕ) (small-n : n ≤ largest) (small-t
     number-back (front ++ tail) _ (0 + widthOf n + widthOf t) policy small-policy at-policy,
   )
 
+ends : (a b : List ℕ) (at : ℕ) → at ≡ length a → at + length b ≡ length (a ++ b)
+ends a b at same = rw (length-append a b, same)
+
 pub set-up-read : SetUpRead
-unfolding setUpBytes
-set-up-read config rest w =
-    let n = config .n in
-    let t = config .t in
-    let policy = config .policy in
+set-up-read config bytes rest (without-k n t policy few-n few-t few-policy other) =
     let front = bytesOf n ++ bytesOf t ++ bytesOf policy in
-    cases (eqb policy 3)
-    (λ e.
-    let tail = bytesOf (config .k) ++ rest in
-    let at = past n t policy tail (w .n) (w .t) (w .policy) in
-    let read = front-read n t policy tail (w .n) (w .t) (w .policy) in
-    let k : readNumber (front ++ tail) at ≡ record { next = place (at + widthOf (config .k)); value = config .k } =
-    number-back (front ++ tail) rest at (config .k) (w .k) (at-tail n t policy tail (w .n) (w .t) (w .policy)) in
-    let asked : behindPolicy (front ++ tail) (with n t policy 0) at ≡ kStep (with n t policy 0) (readNumber (front ++ tail) at) =
-    ap (λ (three : Bool). cond three (kStep (with n t policy 0) (readNumber (front ++ tail) at)) (reads (with n t policy 0) at)) e in
-    let whole : configOf (front ++ tail) ≡ reads config (at + widthOf (config .k)) = read ∙ asked ∙ ap (kStep (with n t policy 0)) k in
-    let length-is : at + widthOf (config .k) ≡ length (front ++ bytesOf (config .k)) = ends front (bytesOf (config .k)) at (past-front n t policy tail (w .n) (w .t) (w .policy)) in
-    rw (e, append-assoc front (bytesOf (config .k)) rest) (whole ∙ ap (reads config) length-is))
-    (λ e.
-    let read = front-read n t policy rest (w .n) (w .t) (w .policy) in
-    let none : config .k ≡ 0 = w .only (eqb-false policy 3 e) in
-    let same : with n t policy 0 ≡ config = ap (with n t policy) (sym none) in
-    let at = past n t policy rest (w .n) (w .t) (w .policy) in
+    let at = past n t policy rest few-n few-t few-policy in
     let unasked : behindPolicy (front ++ rest) (with n t policy 0) at ≡ reads (with n t policy 0) at =
-    ap (λ (three : Bool). cond three (kStep (with n t policy 0) (readNumber (front ++ rest) at)) (reads (with n t policy 0) at)) e in
-    let whole : configOf (front ++ rest) ≡ reads config at = read ∙ unasked ∙ ap (λ (c : Config). reads c at) same in
-    rw (e, append-nil) (whole ∙ ap (reads config) (past-front n t policy rest (w .n) (w .t) (w .policy))))
-  where
-    ends : (a b : List ℕ) (at : ℕ) → at ≡ length a → at + length b ≡ length (a ++ b)
-    ends a b at same = rw (length-append a b, same)
+    ap (λ (three : Bool). cond three (kStep (with n t policy 0) (readNumber (front ++ rest) at)) (reads (with n t policy 0) at)) (ne-eqb policy 3 other) in
+    front-read n t policy rest few-n few-t few-policy ∙ unasked ∙ ap (reads config) (past-front n t policy rest few-n few-t few-policy)
+set-up-read config bytes rest (with-k n t k few-n few-t few-k) =
+    let front = bytesOf n ++ bytesOf t ++ bytesOf 3 in
+    let tail = bytesOf k ++ rest in
+    let few : 3 ≤ largest = omega arith in
+    let at = past n t 3 tail few-n few-t few in
+    let read : readNumber (front ++ tail) at ≡ record { next = place (at + widthOf k); value = k } =
+    number-back (front ++ tail) rest at k few-k (at-tail n t 3 tail few-n few-t few) in
+    let whole : configOf (front ++ tail) ≡ reads config (at + widthOf k) = front-read n t 3 tail few-n few-t few ∙ ap (kStep (with n t 3 0)) read in
+    rw (append-assoc front (bytesOf k) rest) (whole ∙ ap (reads config) (ends front (bytesOf k) at (past-front n t 3 tail few-n few-t few)))
+
+pub set-up-written : SetUpWritten
+unfolding setUpBytes
+set-up-written config w =
+    cases (eqb (config .policy) 3)
+    (λ e. let three : 3 ≡ config .policy = sym (eqb-true (config .policy) 3 e) in
+    rw e (subst (λ (p : ℕ). SetUpForm (with (config .n) (config .t) p (config .k)) (bytesOf (config .n) ++ bytesOf (config .t) ++ bytesOf p ++ bytesOf (config .k))) three
+    (with-k (config .n) (config .t) (config .k) (w .n) (w .t) (w .k))))
+    (λ e. let other = eqb-false (config .policy) 3 e in
+    let none : 0 ≡ config .k = sym (w .only other) in
+    rw (e, append-nil) (subst (λ (k : ℕ). SetUpForm (with (config .n) (config .t) (config .policy) k) (bytesOf (config .n) ++ bytesOf (config .t) ++ bytesOf (config .policy))) none
+    (without-k (config .n) (config .t) (config .policy) (w .n) (w .t) (w .policy) other)))
+
+-- ---- what every script's first bytes read as
+
+data Seen (s : List ℕ) : ReadConfig → Type 0 where
+  stops : (r : ℕ) → SetUpStops s r → Seen s (noConfig (Refused (refusal r)))
+  three : (n a t b policy c : ℕ) → numberAt s 0 ≡ Value n a → numberAt s a ≡ Value t b → numberAt s b ≡ Value policy c → (policy ≡ 3 → ⊥)
+      → Seen s (reads (with n t policy 0) c)
+  four : (n a t b c k d : ℕ) → numberAt s 0 ≡ Value n a → numberAt s a ≡ Value t b → numberAt s b ≡ Value 3 c → numberAt s c ≡ Value k d
+      → Seen s (reads (with n t 3 k) d)
+
+module _ (s : List ℕ) where
+  module _ (n a : ℕ) (is-n : numberAt s 0 ≡ Value n a) where
+    module _ (t b : ℕ) (is-t : numberAt s a ≡ Value t b) where
+      by-k : (c : ℕ) → numberAt s b ≡ Value 3 c → (number : Number) → numberAt s c ≡ number → Seen s (kStep (with n t 3 0) (numberStep number))
+      by-k c is-3 (Value k d) e = four n a t b c k d is-n is-t is-3 e
+      by-k c is-3 Cut e = stops 2 (k-unread n a t b c 2 is-n is-t is-3 (cut e))
+      by-k c is-3 Overlong e = stops 3 (k-unread n a t b c 3 is-n is-t is-3 (overlong e))
+
+      by-policy : (number : Number) → numberAt s b ≡ number → Seen s (policyStep n t s (numberStep number))
+      unfolding readNumber
+      by-policy (Value policy c) e =
+          cases (eqb policy 3)
+          (λ is. rw (eqb-true policy 3 is) (by-k c (e ∙ ap (λ (p : ℕ). Value p c) (eqb-true policy 3 is)) (numberAt s c) refl))
+          (λ other. rw other (three n a t b policy c is-n is-t e (eqb-false policy 3 other)))
+      by-policy Cut e = stops 2 (policy-unread n a t b 2 is-n is-t (cut e))
+      by-policy Overlong e = stops 3 (policy-unread n a t b 3 is-n is-t (overlong e))
+
+    by-t : (number : Number) → numberAt s a ≡ number → Seen s (tStep n s (numberStep number))
+    unfolding readNumber
+    by-t (Value t b) e = by-policy t b e (numberAt s b) refl
+    by-t Cut e = stops 2 (t-unread n a 2 is-n (cut e))
+    by-t Overlong e = stops 3 (t-unread n a 3 is-n (overlong e))
+
+  by-n : (number : Number) → numberAt s 0 ≡ number → Seen s (onward (numberStep number .next) (λ next. tStep (numberStep number .value) s (readNumber s next)) noConfig)
+  unfolding readNumber
+  by-n (Value n a) e = by-t n a e (numberAt s a) refl
+  by-n Cut e = stops 2 (n-unread 2 (cut e))
+  by-n Overlong e = stops 3 (n-unread 3 (overlong e))
+
+  seen : Seen s (configOf s)
+  unfolding configOf readNumber
+  seen = by-n (numberAt s 0) refl
+
+-- ---- only such bytes read
+
+module _ (s : List ℕ) (bytes : Bytes s) where
+  -- the numbers that every set-up has
+  module _ (n a t b policy c : ℕ) (is-n : numberAt s 0 ≡ Value n a) (is-t : numberAt s a ≡ Value t b) (is-policy : numberAt s b ≡ Value policy c) where
+    stood : s ≡ (bytesOf n ++ bytesOf t ++ bytesOf policy) ++ drop c s
+    stood =
+        only-form s 0 n a bytes is-n .2
+        ∙ ap (λ (l : List ℕ). bytesOf n ++ l) (only-form s a t b bytes is-t .2 ∙ ap (λ (l : List ℕ). bytesOf t ++ l) (only-form s b policy c bytes is-policy .2))
+        ∙ simp append-assoc
+
+    took : c ≡ length (bytesOf n ++ bytesOf t ++ bytesOf policy)
+    took =
+        simp length-append
+        (omega (arith, only-form s 0 n a bytes is-n .1, only-form s a t b bytes is-t .1, only-form s b policy c bytes is-policy .1))
+
+  only : {read : ReadConfig} → Seen s read → (config : Config) (at : ℕ) → read ≡ reads config at → SetUpStands s config at
+  only (stops r why) config at e =
+      let apart : _≡_ {A = Next} (Refused (refusal r)) (place at) = ap (λ (read : ReadConfig). read .next) e in
+      let z : _≡_ {A = ℕ} 0 1 = cc in
+      absurd (omega arith)
+  only (three n a t b policy c is-n is-t is-policy other) config at e =
+      subst (λ (r : ReadConfig). SetUpStands s (r .config) at) e
+      (subst (SetUpStands s (with n t policy 0)) (ap end e)
+      (record {
+        bytes = bytesOf n ++ bytesOf t ++ bytesOf policy;
+        form = without-k n t policy (only-form s 0 n a bytes is-n .0) (only-form s a t b bytes is-t .0) (only-form s b policy c bytes is-policy .0) other;
+        first = stood n a t b policy c is-n is-t is-policy;
+        taken = took n a t b policy c is-n is-t is-policy;
+      }))
+  only (four n a t b c k d is-n is-t is-3 is-k) config at e =
+      let front = bytesOf n ++ bytesOf t ++ bytesOf 3 in
+      let form-k = only-form s c k d bytes is-k in
+      subst (λ (r : ReadConfig). SetUpStands s (r .config) at) e
+      (subst (SetUpStands s (with n t 3 k)) (ap end e)
+      (record {
+        bytes = front ++ bytesOf k;
+        form = with-k n t k (only-form s 0 n a bytes is-n .0) (only-form s a t b bytes is-t .0) (form-k .0);
+        first = stood n a t b 3 c is-n is-t is-3 ∙ ap (λ (l : List ℕ). front ++ l) (form-k .2) ∙ sym (append-assoc front (bytesOf k) (drop d s));
+        taken = simp length-append (omega (arith, simp length-append at (took n a t b 3 c is-n is-t is-3), form-k .1));
+      }))
+
+pub set-up-only : SetUpOnly
+set-up-only s config at bytes e = only s bytes (seen s) config at e
+
+-- ---- the first fault
+
+-- what can't be read is refused 2 or 3
+unread-number : (s : List ℕ) (at r : ℕ) → Unread s at r → numberOf (refusal r) ≡ r
+unread-number s at r (cut e) = refl
+unread-number s at r (overlong e) = refl
+
+number-read : (s : List ℕ) (at value next : ℕ) → numberAt s at ≡ Value value next → readNumber s at ≡ record { next = place next; value = value }
+unfolding readNumber
+number-read s at value next e = ap numberStep e
+
+module _ (s : List ℕ) where
+  stops-number : (r : ℕ) → SetUpStops s r → numberOf (refusal r) ≡ r
+  stops-number r (n-unread q why) = unread-number s 0 r why
+  stops-number r (t-unread n a q is-n why) = unread-number s a r why
+  stops-number r (policy-unread n a t b q is-n is-t why) = unread-number s b r why
+  stops-number r (k-unread n a t b c q is-n is-t is-3 why) = unread-number s c r why
+
+  met : (r : ℕ) → SetUpStops s r → configOf s ≡ noConfig (Refused (refusal r))
+  unfolding configOf
+  met r (n-unread q why) = rw (first-faults s 0 r .number why)
+  met r (t-unread n a q is-n why) = rw (number-read s 0 n a is-n, first-faults s a r .number why)
+  met r (policy-unread n a t b q is-n is-t why) = rw (number-read s 0 n a is-n, number-read s a t b is-t, first-faults s b r .number why)
+  met r (k-unread n a t b c q is-n is-t is-3 why) =
+      rw (number-read s 0 n a is-n, number-read s a t b is-t, number-read s b 3 c is-3, first-faults s c r .number why)
+
+  stopped : {read : ReadConfig} (why : Refusal) → Seen s read → read .next ≡ Refused why → SetUpStops s (numberOf why) × (read .config ≡ with 0 0 0 0)
+  stopped why (stops r first) e =
+      let same : refusal r ≡ why = cc in (subst (SetUpStops s) (sym (stops-number r first) ∙ ap numberOf same) first, refl)
+  stopped why (three n a t b policy c is-n is-t is-policy other) e = let z : _≡_ {A = ℕ} 0 1 = cc in absurd (omega arith)
+  stopped why (four n a t b c k d is-n is-t is-3 is-k) e = let z : _≡_ {A = ℕ} 0 1 = cc in absurd (omega arith)
+
+pub set-up-faults : SetUpFaults
+set-up-faults s why =
+    record {
+      when = (
+        λ e. stopped s why (seen s) e .0,
+        λ first. ap (λ (r : ReadConfig). r .next) (met s (numberOf why) first) ∙ ap (λ (w : Refusal). Refused w) (numbered why),
+      );
+      blank = λ e. stopped s why (seen s) e .1;
+    }
 
 pub set-up-cut : SetUpCut
 unfolding readNumber numberAt numberFrom

@@ -17,6 +17,7 @@ use Rattle.calls.specs.Effects.{refuses}
 use Rattle.calls.specs.Turns.{carriedBy, applied, Turn, turns, last}
 use Rattle.record.specs.declared.reader.Cursor.{Cursor}
 use Rattle.record.specs.declared.reader.Next.the-variants.{At, Refused}
+use Rattle.record.specs.FirstFault.{Unread}
 use Rattle.record.specs.Reading.{place}
 use Rattle.space.specs.declared.config.Config.{Config}
 use Rattle.space.specs.declared.space.Space.{Space}
@@ -30,7 +31,8 @@ use Rattle.tuple.specs.declared.fault.Fault.the-variants.{Present}
 use Rattle.tuple.specs.declared.field.Call.{Call}
 use Rattle.tuple.specs.declared.refusal.Refusal.{Refusal}
 use Rattle.tuple.specs.Refusals.{numberOf, refusal}
-use Rattle.varint.specs.Reading.{Bytes, largest}
+use Rattle.varint.specs.declared.Number.the-variants.{Value}
+use Rattle.varint.specs.Reading.{numberAt, Bytes}
 use Rattle.varint.specs.Writing.{bytesOf}
 
 -- ---- how long a text is
@@ -75,27 +77,67 @@ LongRule = (s : List ℕ) → 65_536 < length s → text s ≡ lineText "refused
 
 -- ---- the set-up
 
--- the numbers of a set-up, each of which can be written
-pub record Written (config : Config) : Type 0 where
-  pub n : config .n ≤ largest
-  pub t : config .t ≤ largest
-  pub policy : config .policy ≤ largest
-  pub k : config .k ≤ largest
-  pub only : (config .policy ≡ 3 → ⊥) → config .k ≡ 0
+-- the bytes of a set-up: n, t and the policy number, and k behind them exactly where the policy is 3; elsewhere k is 0
+pub data SetUpForm : Config → List ℕ → Type 0 where
+  without-k : (n t policy : ℕ) → n ≤ 4_294_967_295 → t ≤ 4_294_967_295 → policy ≤ 4_294_967_295 → (policy ≡ 3 → ⊥)
+      → SetUpForm (record { n = n; t = t; policy = policy; k = 0 }) (bytesOf n ++ bytesOf t ++ bytesOf policy)
+  with-k : (n t k : ℕ) → n ≤ 4_294_967_295 → t ≤ 4_294_967_295 → k ≤ 4_294_967_295
+      → SetUpForm (record { n = n; t = t; policy = 3; k = k }) (bytesOf n ++ bytesOf t ++ bytesOf 3 ++ bytesOf k)
 
--- n, t and the policy number are read at the start of a script, and k behind them under policy 3 only
+-- such bytes at the start of a script read as that set-up, whatever follows
 abbrev pub SetUpRead : Type 0
 SetUpRead =
-    (config : Config) (rest : List ℕ)
-    → Written config
-    → configOf (setUpBytes config ++ rest) ≡ record { next = place (length (setUpBytes config)); config = config }
+    (config : Config) (bytes rest : List ℕ)
+    → SetUpForm config bytes
+    → configOf (bytes ++ rest) ≡ record { next = place (length bytes); config = config }
+
+-- and only such bytes do
+pub record SetUpStands (s : List ℕ) (config : Config) (at : ℕ) : Type 0 where
+  pub bytes : List ℕ
+  pub form : SetUpForm config bytes
+  pub first : s ≡ bytes ++ drop at s
+  pub taken : at ≡ length bytes
+
+abbrev pub SetUpOnly : Type 0
+SetUpOnly =
+    (s : List ℕ) (config : Config) (at : ℕ)
+    → Bytes s
+    → configOf s ≡ record { next = place at; config = config }
+    → SetUpStands s config at
+
+-- the numbers of a set-up, each of which can be written
+pub record Written (config : Config) : Type 0 where
+  pub n : config .n ≤ 4_294_967_295
+  pub t : config .t ≤ 4_294_967_295
+  pub policy : config .policy ≤ 4_294_967_295
+  pub k : config .k ≤ 4_294_967_295
+  pub only : (config .policy ≡ 3 → ⊥) → config .k ≡ 0
+
+-- such are the bytes that are written for it (document 02, 2.4)
+abbrev pub SetUpWritten : Type 0
+SetUpWritten = (config : Config) → Written config → SetUpForm config (setUpBytes config)
+
+-- the first number that can't be read: n, then t, then the policy number, then k, which is read behind policy 3 alone; nothing is asked of the bytes behind it
+pub data SetUpStops (s : List ℕ) : ℕ → Type 0 where
+  n-unread : (r : ℕ) → Unread s 0 r → SetUpStops s r
+  t-unread : (n a r : ℕ) → numberAt s 0 ≡ Value n a → Unread s a r → SetUpStops s r
+  policy-unread : (n a t b r : ℕ) → numberAt s 0 ≡ Value n a → numberAt s a ≡ Value t b → Unread s b r → SetUpStops s r
+  k-unread : (n a t b c r : ℕ) → numberAt s 0 ≡ Value n a → numberAt s a ≡ Value t b → numberAt s b ≡ Value 3 c → Unread s c r → SetUpStops s r
+
+-- a set-up is refused exactly with its number, and zeros stand beside it
+pub record SetUpFault (s : List ℕ) (why : Refusal) : Type 0 where
+  pub when : (configOf s .next ≡ Refused why) ↔ SetUpStops s (numberOf why)
+  pub blank : configOf s .next ≡ Refused why → configOf s .config ≡ record { n = 0; t = 0; policy = 0; k = 0 }
+
+abbrev pub SetUpFaults : Type 0
+SetUpFaults = (s : List ℕ) (why : Refusal) → SetUpFault s why
 
 -- before anything of it is judged: a script that ends before k is refused 2, whatever n and t are
 abbrev pub SetUpCut : Type 0
 SetUpCut =
     (n t : ℕ)
-    → n ≤ largest
-    → t ≤ largest
+    → n ≤ 4_294_967_295
+    → t ≤ 4_294_967_295
     → configOf (bytesOf n ++ bytesOf t ++ bytesOf 3) ≡ noConfig (Refused (refusal 2))
 
 -- ---- one record

@@ -1,15 +1,17 @@
--- The laws of a number's shortest form: how it begins, by whether the number is below 128, and how long it is. From the definition alone.
+-- The laws of a number's shortest form: how it begins, by whether the number is below 128, how long it is, and what writing it answers and leaves. From the
+-- definitions alone.
 use mathlib.Core.Path.{_≡_, refl, sym, ap, _∙_}
 use Prim.Native.Nat.{ℕ, zero, suc, _+_, _*_, _/_, _%_, _^_, _≤_, _<_}
 use native.Mathlib.Omega.{arith}
-use mathlib.Core.List.{List, [], _∷_}
-use lib.ListN.{length}
+use mathlib.Core.List.{List, [], _∷_, _++_, append-assoc}
+use lib.ListN.{length, take, drop, length-append, length-drop}
+use lib.Seq.{length-take-le, take-append-seam, take-at, drop-at}
 use lib.Dec.{leb, ltb}
 use borrow.Author.Tests.{lt-ltb, le-ltb, le-leb, lt-leb, ltb-true, ltb-false, leb-true, leb-false}
 use borrow.Table.Steps.{cases}
 use Rattle.varint.specs.Reading.{largest}
 use Rattle.varint.specs.Writing.{groupsOf, bytesOf, widthOf, stored, writtenRefusal, writtenAt, leftAt}
-use Rattle.varint.specs.Laws.{WriteRule, WriteRules}
+use Rattle.varint.specs.Laws.{Stored, WriteRule, WriteRules}
 use Rattle.varint.specs.declared.Written.the-variants.{Next, Beyond, NoRoom}
 
 -- the first number that `more` groups behind the first do not hold
@@ -112,20 +114,55 @@ written-next s at value held fits = (
   rw (le-ltb largest value held, le-leb (at + widthOf value) (length s) fits),
 )
 
--- ---- when it is refused, and with which number
+-- what stands in the buffer then
+module _ (s : List ℕ) (at value : ℕ) (fits : at + widthOf value ≤ length s) where
+  front : length (take at s) ≡ at
+  front = length-take-le at s (omega arith)
+
+  whole-front : length (take at s ++ bytesOf value) ≡ at + widthOf value
+  whole-front = rw (length-append (take at s) (bytesOf value), front)
+
+  regrouped : stored s at (bytesOf value) ≡ take at s ++ (bytesOf value ++ drop (at + widthOf value) s)
+  regrouped = append-assoc (take at s) (bytesOf value) (drop (at + widthOf value) s)
+
+  stored-bytes : take (widthOf value) (drop at (stored s at (bytesOf value))) ≡ bytesOf value
+  stored-bytes =
+      ap (λ (l : List ℕ). take (widthOf value) (drop at l)) regrouped
+      ∙ ap (take (widthOf value)) (drop-at (take at s) (bytesOf value ++ drop (at + widthOf value) s) at front)
+      ∙ take-append-seam (bytesOf value) (drop (at + widthOf value) s)
+
+  stored-before : take at (stored s at (bytesOf value)) ≡ take at s
+  stored-before = ap (take at) regrouped ∙ take-at (take at s) (bytesOf value ++ drop (at + widthOf value) s) at front
+
+  stored-behind : drop (at + widthOf value) (stored s at (bytesOf value)) ≡ drop (at + widthOf value) s
+  stored-behind = drop-at (take at s ++ bytesOf value) (drop (at + widthOf value) s) (at + widthOf value) whole-front
+
+  stored-whole : length (stored s at (bytesOf value)) ≡ length s
+  stored-whole = length-append (take at s ++ bytesOf value) _ ∙ omega (arith, whole-front, length-drop (at + widthOf value) s)
+
+  stored-all : stored s at (bytesOf value) ≡ leftAt s at value → Stored s at value
+  stored-all same =
+      record {
+        bytes = ap (λ (l : List ℕ). take (widthOf value) (drop at l)) (sym same) ∙ stored-bytes;
+        before = ap (take at) (sym same) ∙ stored-before;
+        behind = ap (drop (at + widthOf value)) (sym same) ∙ stored-behind;
+        whole = ap length (sym same) ∙ stored-whole;
+      }
+
+-- ---- when it is refused, and with which number, and when it is written
 
 module _ (s : List ℕ) (at value : ℕ) where
   rule-beyond : largest < value → WriteRule s at value
   rule-beyond large =
       let w = written-beyond s at value large in
       let three : 3 ≡ writtenRefusal (writtenAt (length s) at value) = ap writtenRefusal (w .0) in
-      record { beyond = (λ h. large, λ h. sym three); no-room = (λ h. absurd (omega (arith, three, h)), λ h. absurd (omega (arith, h .0))); kept = λ h. sym (w .1) }
+      record { beyond = (λ h. large, λ h. sym three); no-room = (λ h. absurd (omega (arith, three, h)), λ h. absurd (omega (arith, h .0))); kept = λ h. sym (w .1); written = λ small fits. absurd (omega arith) }
 
   rule-full : value ≤ largest → length s < at + widthOf value → WriteRule s at value
   rule-full small full =
       let w = written-full s at value small full in
       let ten : 10 ≡ writtenRefusal (writtenAt (length s) at value) = ap writtenRefusal (w .0) in
-      record { beyond = (λ h. absurd (omega (arith, ten, h)), λ h. absurd (omega arith)); no-room = (λ h. (small, full), λ h. sym ten); kept = λ h. sym (w .1) }
+      record { beyond = (λ h. absurd (omega (arith, ten, h)), λ h. absurd (omega arith)); no-room = (λ h. (small, full), λ h. sym ten); kept = λ h. sym (w .1); written = λ few fits. absurd (omega arith) }
 
   rule-next : value ≤ largest → at + widthOf value ≤ length s → WriteRule s at value
   rule-next small fits =
@@ -135,6 +172,7 @@ module _ (s : List ℕ) (at value : ℕ) where
         beyond = (λ h. absurd (omega (arith, none, h)), λ h. absurd (omega arith));
         no-room = (λ h. absurd (omega (arith, none, h)), λ h. absurd (omega (arith, h .1)));
         kept = λ h. absurd (h (sym none));
+        written = λ few room. (sym (w .0), stored-all s at value fits (w .1));
       }
 
 pub write-rules : WriteRules

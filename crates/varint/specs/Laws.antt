@@ -7,6 +7,7 @@ use lib.ListN.{length, take, drop, getD}
 use Rattle.varint.specs.declared.Number.{Number}
 use Rattle.varint.specs.declared.Number.the-variants.{Value}
 use Rattle.varint.specs.declared.Written.{Written}
+use Rattle.varint.specs.declared.Written.the-variants.{Next}
 use Rattle.varint.specs.Reading.{largest, numberRefusal, refused, numberAt, Bytes}
 use Rattle.varint.specs.Writing.{bytesOf, widthOf, writtenRefusal, unwritten, writtenAt, leftAt}
 
@@ -45,11 +46,20 @@ CutRule =
     (s : List ℕ) (at : ℕ)
     → (numberRefusal (numberAt s at) ≡ 2) ↔ ((length (drop at s) < 5) × ((i : ℕ) → i < length (drop at s) → 128 ≤ getD (drop at s) i 0))
 
--- writing a number is refused 3 exactly when it is above the largest; then 10 exactly when fewer bytes are left than it has; a refusal leaves every byte
+-- a buffer in which a number was written holds its bytes from the place on; those before and behind them are as they were
+pub record Stored (s : List ℕ) (at value : ℕ) : Type 0 where
+  pub bytes : take (widthOf value) (drop at (leftAt s at value)) ≡ bytesOf value
+  pub before : take at (leftAt s at value) ≡ take at s
+  pub behind : drop (at + widthOf value) (leftAt s at value) ≡ drop (at + widthOf value) s
+  pub whole : length (leftAt s at value) ≡ length s
+
+-- writing a number is refused 3 exactly when it is above the largest; then 10 exactly when fewer bytes are left than it has; a refusal leaves every byte.
+-- Else it is written, and the answer is the place behind it
 pub record WriteRule (s : List ℕ) (at value : ℕ) : Type 0 where
   pub beyond : (writtenRefusal (writtenAt (length s) at value) ≡ 3) ↔ (4_294_967_295 < value)
   pub no-room : (writtenRefusal (writtenAt (length s) at value) ≡ 10) ↔ ((value ≤ 4_294_967_295) × (length s < at + widthOf value))
   pub kept : (writtenRefusal (writtenAt (length s) at value) ≡ 0 → ⊥) → leftAt s at value ≡ s
+  pub written : value ≤ 4_294_967_295 → at + widthOf value ≤ length s → (writtenAt (length s) at value ≡ Next (at + widthOf value)) × Stored s at value
 
 abbrev pub WriteRules : Type 0
 WriteRules = (s : List ℕ) (at value : ℕ) → WriteRule s at value

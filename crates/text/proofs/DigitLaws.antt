@@ -131,5 +131,11 @@ digits-lead (suc most) n few some =
     (λ e. rw e (keeps-first (decimalFrom most (n / 10)) (digit (n % 10)) (digits-lead most (n / 10) (omega (arith, ltb-false n 10 e)) (omega (arith, ltb-false n 10 e)))))
 
 pub decimal-rule : DecimalRule
-unfolding decimal
-decimal-rule n = record { digits = decimal-all n; value = decimal-value n; shortest = λ some. digits-lead n n (omega arith) some }
+unfolding decimal decimalFrom
+decimal-rule n =
+    record {
+      digits = decimal-all n;
+      value = decimal-value n;
+      shortest = λ some. digits-lead n n (omega arith) some;
+      zero = λ none. ap decimal none;
+    }

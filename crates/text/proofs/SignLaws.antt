@@ -1,15 +1,19 @@
--- The text of an offset tells it: a minus and an underline are no digits, and the digits tell the number. From the laws of digits.
+-- The text of an offset, by its sign, and that it tells the offset: a minus and an underline are no digits, and the digits tell the number. From the laws of digits.
 use mathlib.Core.Path.{_≡_, refl, sym, ap, _∙_, subst}
 use Prim.Native.Nat.{ℕ, _+_}
+use native.Mathlib.Numerals.{add-one}
 use native.Mathlib.Omega.{arith}
-use mathlib.Core.List.{List, _++_}
+use mathlib.Core.List.{List, _∷_, _++_}
 use lib.ListN.{getD}
 use lib.IntN.{pos, negsuc}
 use Rattle.text.specs.Digits.{decimal, AllDigits, valueFrom}
-use Rattle.text.specs.Laws.{OffsetTexts}
+use Rattle.text.specs.Laws.{OffsetText, OffsetTexts}
 use Rattle.text.specs.Texts.{minus, underline}
 use Rattle.text.proofs.DigitLaws.{decimal-all, decimal-first, decimal-value}
 use Rattle.tuple.specs.declared.offset.Offset.the-variants.{Bottom, Hundredths}
+
+pub offset-text : OffsetText
+offset-text = record { from-zero = λ z. refl; below-zero = λ k. ap (λ (n : ℕ). 45 ∷ decimal n) (add-one k); mark = refl }
 
 same-number : (m n : ℕ) → decimal m ≡ decimal n → m ≡ n
 same-number m n e = sym (decimal-value m) ∙ ap (valueFrom 0) e ∙ decimal-value n

@@ -7,13 +7,25 @@ use mathlib.Core.List.{List, _∷_, _++_}
 use lib.ListN.{getD}
 use lib.IntN.{pos, negsuc}
 use Rattle.text.specs.Digits.{decimal, AllDigits, valueFrom}
-use Rattle.text.specs.Laws.{OffsetText, OffsetTexts}
-use Rattle.text.specs.Texts.{minus, underline}
+use Rattle.text.specs.Laws.{OffsetText, FieldText, OffsetTexts}
+use Rattle.text.specs.Texts.{minus, underline, offsetText, valueText, letterText, fieldText}
 use Rattle.text.proofs.DigitLaws.{decimal-all, decimal-first, decimal-value}
+use Rattle.tuple.specs.declared.offset.Offset.{Offset}
 use Rattle.tuple.specs.declared.offset.Offset.the-variants.{Bottom, Hundredths}
+use Rattle.tuple.proofs.OffsetLaws.{one-to-one}
 
 pub offset-text : OffsetText
 offset-text = record { from-zero = λ z. refl; below-zero = λ k. ap (λ (n : ℕ). 45 ∷ decimal n) (add-one k); mark = refl }
+
+pub field-text : FieldText
+unfolding fieldText letterText valueText
+field-text =
+    record {
+      word = λ value. refl;
+      count = λ value. refl;
+      offset = λ o. ap (λ (x : Offset). 32 ∷ 111 ∷ offsetText x) (one-to-one .back o);
+      set = λ value. refl;
+    }
 
 same-number : (m n : ℕ) → decimal m ≡ decimal n → m ≡ n
 same-number m n e = sym (decimal-value m) ∙ ap (valueFrom 0) e ∙ decimal-value n

@@ -6,10 +6,11 @@ use lib.IntN.{pos, negsuc, natAbs}
 use lib.ListN.{getD}
 use Rattle.text.specs.Digits.{decimal, AllDigits, valueFrom}
 use Rattle.text.specs.Lines.{linesOf}
-use Rattle.text.specs.Texts.{offsetText, replyText, replyLine}
+use Rattle.text.specs.Texts.{offsetText, fieldText, replyText, replyLine}
 use Rattle.tuple.specs.declared.offset.Offset.{Offset}
 use Rattle.tuple.specs.declared.offset.Offset.the-variants.{Bottom, Hundredths}
 use Rattle.tuple.specs.declared.reply.Reply.{Reply}
+use Rattle.tuple.specs.Offsets.{codeOf}
 
 -- the decimal of a number: digits, which say it, and no 0 before them; that of zero is one 0
 pub record Decimal (n : ℕ) : Type 0 where
@@ -26,6 +27,14 @@ pub record OffsetText : Type 0 where
   pub from-zero : (z : ℕ) → offsetText (Hundredths (pos z)) ≡ decimal z
   pub below-zero : (k : ℕ) → offsetText (Hundredths (negsuc k)) ≡ 45 ∷ decimal (natAbs (negsuc k))
   pub mark : offsetText Bottom ≡ 95 ∷ []
+
+-- the text of a field: a space (32), then w (119) for a word, c (99) for a count and s (115) for a process set, each with the decimal of its value, and o (111)
+-- for an offset, with that offset's text
+pub record FieldText : Type 0 where
+  pub word : (value : ℕ) → fieldText (record { kind = 1; state = 0; value = value }) ≡ 32 ∷ 119 ∷ decimal value
+  pub count : (value : ℕ) → fieldText (record { kind = 2; state = 0; value = value }) ≡ 32 ∷ 99 ∷ decimal value
+  pub offset : (o : Offset) → fieldText (record { kind = 3; state = 0; value = codeOf o }) ≡ 32 ∷ 111 ∷ offsetText o
+  pub set : (value : ℕ) → fieldText (record { kind = 4; state = 0; value = value }) ≡ 32 ∷ 115 ∷ decimal value
 
 -- two offsets have one text only if they are one: neither the sign nor the mark is lost
 abbrev pub OffsetTexts : Type 0

@@ -1,7 +1,9 @@
--- n, t, the policy number and, under policy 3, k are read at the start of a script. From the law that a number which is written reads back.
+-- n, t, the policy number and, under policy 3, k are read at the start of a script, and nothing else is; what can't be read is refused as its first number.
+-- From the laws that a number which is written reads back, and that what reads is what is written.
 use mathlib.Core.Path.{_≡_, refl, sym, ap, _∙_, subst}
 use mathlib.Core.Bool.{Bool, cond}
 use mathlib.Core.List.{List, [], _∷_, _++_, append-assoc, append-nil}
+use mathlib.Core.Logic.{_⊎_, inl, inr, ⊎-elim}
 use Prim.Native.Nat.{ℕ, _+_, _≤_}
 use native.Mathlib.Omega.{arith}
 use lib.Dec.{eqb}
@@ -25,7 +27,7 @@ use Rattle.record.proofs.ReadBack.{number-back}
 use Rattle.space.specs.declared.config.Config.{Config}
 use Rattle.tuple.specs.declared.refusal.Refusal.{Refusal}
 use Rattle.tuple.specs.Refusals.{numberOf, refusal}
-use Rattle.tuple.proofs.RefusalLaws.{numbered}
+use Rattle.tuple.proofs.RefusalLaws.{numbered, numbered-back}
 use Rattle.varint.specs.declared.Number.{Number}
 use Rattle.varint.specs.declared.Number.the-variants.{Value, Cut, Overlong}
 use Rattle.varint.specs.Reading.{largest, further, numberFrom, numberAt, Bytes}
@@ -81,13 +83,16 @@ module _ (n t policy : ℕ) (tail : List ℕ) (small-n : n ≤ largest) (small-t
 ends : (a b : List ℕ) (at : ℕ) → at ≡ length a → at + length b ≡ length (a ++ b)
 ends a b at same = rw (length-append a b, same)
 
+-- behind another policy than 3 no k is read
+no-k-read : (s : List ℕ) (config : Config) (at : ℕ) → (config .policy ≡ 3 → ⊥) → behindPolicy s config at ≡ reads config at
+no-k-read s config at other = ap (λ (three : Bool). cond three (kStep config (readNumber s at)) (reads config at)) (ne-eqb (config .policy) 3 other)
+
 pub set-up-read : SetUpRead
 set-up-read config bytes rest (without-k n t policy few-n few-t few-policy other) =
     let front = bytesOf n ++ bytesOf t ++ bytesOf policy in
-    let at = past n t policy rest few-n few-t few-policy in
-    let unasked : behindPolicy (front ++ rest) (with n t policy 0) at ≡ reads (with n t policy 0) at =
-    ap (λ (three : Bool). cond three (kStep (with n t policy 0) (readNumber (front ++ rest) at)) (reads (with n t policy 0) at)) (ne-eqb policy 3 other) in
-    front-read n t policy rest few-n few-t few-policy ∙ unasked ∙ ap (reads config) (past-front n t policy rest few-n few-t few-policy)
+    front-read n t policy rest few-n few-t few-policy
+    ∙ no-k-read (front ++ rest) (with n t policy 0) (past n t policy rest few-n few-t few-policy) other
+    ∙ ap (reads config) (past-front n t policy rest few-n few-t few-policy)
 set-up-read config bytes rest (with-k n t k few-n few-t few-k) =
     let front = bytesOf n ++ bytesOf t ++ bytesOf 3 in
     let tail = bytesOf k ++ rest in
@@ -132,7 +137,7 @@ module _ (s : List ℕ) where
       by-policy (Value policy c) e =
           cases (eqb policy 3)
           (λ is. rw (eqb-true policy 3 is) (by-k c (e ∙ ap (λ (p : ℕ). Value p c) (eqb-true policy 3 is)) (numberAt s c) refl))
-          (λ other. rw other (three n a t b policy c is-n is-t e (eqb-false policy 3 other)))
+          (λ other. let apart = eqb-false policy 3 other in rw (no-k-read s (with n t policy 0) c apart) (three n a t b policy c is-n is-t e apart))
       by-policy Cut e = stops 2 (policy-unread n a t b 2 is-n is-t (cut e))
       by-policy Overlong e = stops 3 (policy-unread n a t b 3 is-n is-t (overlong e))
 
@@ -200,20 +205,23 @@ set-up-only s config at bytes e = only s bytes (seen s) config at e
 -- ---- the first fault
 
 -- what can't be read is refused 2 or 3
-unread-number : (s : List ℕ) (at r : ℕ) → Unread s at r → numberOf (refusal r) ≡ r
-unread-number s at r (cut e) = refl
-unread-number s at r (overlong e) = refl
+unread-two-or-three : (s : List ℕ) (at r : ℕ) → Unread s at r → (r ≡ 2) ⊎ (r ≡ 3)
+unread-two-or-three s at r (cut e) = inl refl
+unread-two-or-three s at r (overlong e) = inr refl
 
 number-read : (s : List ℕ) (at value next : ℕ) → numberAt s at ≡ Value value next → readNumber s at ≡ record { next = place next; value = value }
 unfolding readNumber
 number-read s at value next e = ap numberStep e
 
 module _ (s : List ℕ) where
+  pub two-or-three : (r : ℕ) → SetUpStops s r → (r ≡ 2) ⊎ (r ≡ 3)
+  two-or-three r (n-unread q why) = unread-two-or-three s 0 r why
+  two-or-three r (t-unread n a q is-n why) = unread-two-or-three s a r why
+  two-or-three r (policy-unread n a t b q is-n is-t why) = unread-two-or-three s b r why
+  two-or-three r (k-unread n a t b c q is-n is-t is-3 why) = unread-two-or-three s c r why
+
   stops-number : (r : ℕ) → SetUpStops s r → numberOf (refusal r) ≡ r
-  stops-number r (n-unread q why) = unread-number s 0 r why
-  stops-number r (t-unread n a q is-n why) = unread-number s a r why
-  stops-number r (policy-unread n a t b q is-n is-t why) = unread-number s b r why
-  stops-number r (k-unread n a t b c q is-n is-t is-3 why) = unread-number s c r why
+  stops-number r first = ⊎-elim (λ e. numbered-back r (omega arith) (omega arith)) (λ e. numbered-back r (omega arith) (omega arith)) (two-or-three r first)
 
   met : (r : ℕ) → SetUpStops s r → configOf s ≡ noConfig (Refused (refusal r))
   unfolding configOf

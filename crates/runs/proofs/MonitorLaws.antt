@@ -1,7 +1,7 @@
 -- What one more call makes of where a process stands and of what it has decided, exactly, from the calls that are due.
 use mathlib.Core.Path.{_≡_, refl, sym, ap, _∙_, subst}
 use mathlib.Core.Logic.{_↔_}
-use Prim.Native.Nat.{ℕ, _+_}
+use Prim.Native.Nat.{ℕ, _+_, _≤_}
 use mathlib.Core.Bool.{true}
 use mathlib.Core.List.{List, [], _∷_, _++_}
 use lib.ListN.{length}
@@ -16,7 +16,7 @@ use Rattle.runs.specs.Correct.Standing.{idle, busy}
 use Rattle.runs.specs.Decisions.{Decision, decisionIn, decisionsOver, decisionsOf}
 use Rattle.runs.specs.Laws.{MayCall, HandedOn, MonitorRules}
 use Rattle.runs.specs.Theorem.{turnOn}
-use Rattle.runs.proofs.Monitoring.{right-same, wrong-right, monitored-append, before, skips, taken, takes}
+use Rattle.runs.proofs.Monitoring.{right-same, wrong-right, monitored-append, before, skips, correct-skips, taken, takes}
 use Rattle.runs.proofs.Starting.{started-call, started-again, due-rule}
 use Rattle.runs.proofs.Turning.{turns-append}
 use Rattle.space.specs.declared.config.Config.{Config}
@@ -42,8 +42,8 @@ module _ (config : Config) (q : ℕ) where
         monitored-append config q calls (call ∷ []) ∙ rw (c .stands, eq-eqb (call .process) q own, e) refl in
         absurd (wrong-right (sym gone ∙ d .stands)))
 
-    own-rule : Correct config (calls ++ (call ∷ [])) q ↔ MayCall config q (c .watch .entered) call (c .watch .standing)
-    own-rule =
+    may-call : Correct config (calls ++ (call ∷ [])) q ↔ MayCall config q (c .watch .entered) call (c .watch .standing)
+    may-call =
         let rule = due-rule config q (c .watch .entered) (c .watch .standing) call in
         (λ d. rule .0 (was-due d), λ m. takes config q calls call c own (rule .1 m))
 
@@ -70,6 +70,16 @@ module _ (config : Config) (q : ℕ) where
           (subst (HandedOn state reply (c .watch) (tookTurn config q (c .watch) call reply) (decisionsOf config calls q)) given-after
           (handing state reply (c .watch) (decisionsOf config calls q)))
 
+  own-rule : (calls : List Call) (call : Call) → call .process ≡ q
+      → Correct config (calls ++ (call ∷ [])) q ↔ ((c : Correct config calls q) × MayCall config q (c .watch .entered) call (c .watch .standing))
+  own-rule calls call own = (
+    λ d. let c = before config q calls (call ∷ []) d .early in (c, may-call calls call c own .0 d),
+    λ both. may-call calls call (both .0) own .1 (both .1),
+  )
+
+  other-rule : (calls : List Call) (call : Call) → (call .process ≡ q → ⊥) → Correct config (calls ++ (call ∷ [])) q ↔ Correct config calls q
+  other-rule calls call apart = (λ d. before config q calls (call ∷ []) d .early, correct-skips config q calls call apart)
+
   -- a turn under another number gives nothing
   given-skips : (watch : Watch) (list : List Turn) (turn : Turn) → (turn .call .process ≡ q → ⊥)
       → decisionsOver config q watch (list ++ (turn ∷ [])) ≡ decisionsOver config q watch list
@@ -88,6 +98,9 @@ module _ (config : Config) (q : ℕ) where
   starts : (monitored config [] q ≡ right (record { entered = []; standing = idle })) × (decisionsOf config [] q ≡ [])
   unfolding monitored watched decisionsOf decisionsOver turns turnsFrom
   starts = (refl, refl)
+
+  range : Correct config [] q ↔ ((1 ≤ q) × (q ≤ config .n))
+  range = (λ c. (c .some, c .few), λ both. record { some = both .0; few = both .1; watch = unbegun; stands = starts .0 })
 
   module _ (calls : List Call) (c : Correct config calls q) where
     first-handed : (round : ℕ) (offset : Offset) → c .watch .standing ≡ idle → started config q round offset .next ≡ Calls
@@ -113,8 +126,9 @@ module _ (config : Config) (q : ℕ) where
 pub monitor-rules : MonitorRules
 monitor-rules config q =
     record {
+      range = range config q;
       start = starts config q;
-      other = λ calls call apart. (skips config q calls call apart, skips-given config q calls call apart);
+      other = λ calls call apart. (skips config q calls call apart, skips-given config q calls call apart, other-rule config q calls call apart);
       own = own-rule config q;
       first = λ calls round offset c. first-handed config q calls c round offset;
       next = λ calls call state c. next-handed config q calls c call state;

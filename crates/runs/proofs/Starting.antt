@@ -19,7 +19,7 @@ use Rattle.process.proofs.KeptLaws.{started-begun}
 use Rattle.process.proofs.StateLaws.{Same}
 use Rattle.runs.specs.Correct.{Standing, listed, startedBy, isCalls, due}
 use Rattle.runs.specs.Correct.Standing.{idle, busy, stuck}
-use Rattle.runs.specs.Laws.{MayCall, DueRule}
+use Rattle.runs.specs.Laws.{ListedRule, MayCall, DueRule}
 use Rattle.runs.specs.Laws.MayCall.{begins, goes-on}
 use Rattle.runs.proofs.Tests.{same-call-rule}
 use Rattle.space.specs.declared.config.Config.{Config}
@@ -64,7 +64,7 @@ started-again config q round offset goes =
 
 -- ---- which calls are due
 
-pub listed-rule : (round : ℕ) (rounds : List ℕ) → (listed round rounds ≡ true) ↔ List·Memᴰ round rounds
+pub listed-rule : ListedRule
 unfolding listed
 listed-rule round [] = (λ h. absurd (false≢true h), λ m. absurd (List·Memᴰ·not-nil m))
 listed-rule round (one ∷ rest) = (

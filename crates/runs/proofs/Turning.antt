@@ -2,6 +2,7 @@
 use mathlib.Core.Path.{_≡_, refl, sym, ap, _∙_, subst}
 use mathlib.Core.List.{List, [], _∷_, _++_, List·Memᴰ, List·Memᴰ·not-nil, List·Memᴰ·cases-cons, Memᴰ·append-left}
 use mathlib.Core.Logic.{inl, inr}
+use Rattle.runs.specs.Laws.{TurnsRules}
 use Rattle.runs.specs.Theorem.{turnOn}
 use Rattle.space.specs.declared.config.Config.{Config}
 use Rattle.space.specs.declared.space.Space.{Space}
@@ -78,3 +79,7 @@ module _ (config : Config) where
       let at = turn-at calls m in
       subst (λ (t : Turn). P calls t) (sym (at .same))
       (subst (λ (l : List Call). P l (turnOn (last config (at .before)) (at .call))) (sym (at .split)) (each (at .before) (at .behind) (at .call)))
+
+pub turns-rules : TurnsRules
+unfolding turns turnsFrom lastOf
+turns-rules config = record { none = (refl, refl); more = λ calls call. (turns-append config calls (call ∷ []), last-more config calls call) }

@@ -73,6 +73,18 @@ pub record OutDone (list : List Turn) (round process : ℕ) (offset : Offset) : 
 abbrev pub OutDoneRule : Type 0
 OutDoneRule = (list : List Turn) (round process : ℕ) (offset : Offset) → DoneProposal list round process offset ↔ OutDone list round process offset
 
+-- the turns of calls and the space that they leave: of none, none and the fresh space; with one call more, one turn more, of that call on the space that the
+-- others left
+pub record TurnsRule (config : Config) : Type 0 where
+  pub none : (turns config [] ≡ []) × (last config [] ≡ freshOf config .space)
+  pub more : (calls : List Call) (call : Call)
+      → (turns config (calls ++ (call ∷ []))
+      ≡ turns config calls ++ (record { call = call; reply = applied (last config calls) call .reply; space = applied (last config calls) call .space } ∷ []))
+      × (last config (calls ++ (call ∷ [])) ≡ applied (last config calls) call .space)
+
+abbrev pub TurnsRules : Type 0
+TurnsRules = (config : Config) → TurnsRule config
+
 -- how many calls of a list are under a process's number: none of none, one more with one of its own, whatever it is, and no more with another's
 pub record CallsRule (process : ℕ) : Type 0 where
   pub none : callsOf process [] ≡ 0
@@ -87,6 +99,10 @@ abbrev pub AmountRule : Type 0
 AmountRule =
     (test : ℕ → Bool) (n m : ℕ)
     → (amount test n 1 ≤ m) ↔ ((named : List ℕ) × (length named ≤ m) × ((process : ℕ) → 1 ≤ process → process ≤ n → test process ≡ true → List·Memᴰ process named))
+
+-- a round is begun exactly if it is among those entered
+abbrev pub ListedRule : Type 0
+ListedRule = (round : ℕ) (rounds : List ℕ) → (listed round rounds ≡ true) ↔ List·Memᴰ round rounds
 
 -- ---- what a correct process may call, and what becomes of it
 
@@ -109,15 +125,18 @@ pub record HandedOn (state : Process) (reply : Reply) (before after : Watch) (gi
   pub ends : (offset : Offset) → resumed state reply .next ≡ Decides offset → (after .standing ≡ idle) × (now ≡ record { round = state .round; offset = offset } ∷ given)
 
 pub record MonitorRule (config : Config) (process : ℕ) : Type 0 where
-  -- before all calls it has begun no round, and given no decision
+  -- before all calls it is correct exactly if it is one of 1 to n; it has begun no round, and given no decision
+  pub range : Correct config [] process ↔ ((1 ≤ process) × (process ≤ config .n))
   pub start : (monitored config [] process ≡ right (record { entered = []; standing = idle })) × (decisionsOf config [] process ≡ [])
   -- a call under another number leaves it, whatever it is
   pub other : (calls : List Call) (call : Call) → (call .process ≡ process → ⊥)
       → (monitored config (calls ++ (call ∷ [])) process ≡ monitored config calls process)
       × (decisionsOf config (calls ++ (call ∷ [])) process ≡ decisionsOf config calls process)
-  -- with one of its own it is still correct exactly if it may make it
-  pub own : (calls : List Call) (call : Call) (c : Correct config calls process) → call .process ≡ process
-      → Correct config (calls ++ (call ∷ [])) process ↔ MayCall config process (c .watch .entered) call (c .watch .standing)
+      × (Correct config (calls ++ (call ∷ [])) process ↔ Correct config calls process)
+  -- with one of its own it is correct exactly if it was before, and may make it
+  pub own : (calls : List Call) (call : Call) → call .process ≡ process
+      → Correct config (calls ++ (call ∷ [])) process
+      ↔ ((c : Correct config calls process) × MayCall config process (c .watch .entered) call (c .watch .standing))
   -- the reply to the first call of a round is handed to the state that starting gave
   pub first : (calls : List Call) (round : ℕ) (offset : Offset) (c : Correct config calls process) → c .watch .standing ≡ idle
       → started config process round offset .next ≡ Calls

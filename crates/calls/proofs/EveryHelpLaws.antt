@@ -29,8 +29,7 @@ use Rattle.space.specs.declared.config.Config.{Config}
 use Rattle.space.specs.declared.space.Space.{Space}
 use Rattle.space.specs.Announcements.{isAnnouncement, announces, announcedOf, announcerOf, announcedSerial, announcedCode, Announcing, Oldest}
 use Rattle.space.specs.Configs.{plainSound, sound, hasProposals, hasList, known}
-use Rattle.space.specs.Lists.{isListTuple, positionOf, serialOf, lists, isThere, isFilled, isListed, Listed}
-use Rattle.space.specs.Shapes.{processOf}
+use Rattle.space.specs.Lists.{listedProcess, isListTuple, positionOf, serialOf, lists, isThere, isFilled, isListed, Listed}
 use Rattle.space.specs.Spaces.{held, spaceOf, placeSound, placesFrom, bounded, wellFormed, freshOf}
 use Rattle.space.proofs.ConfigLaws.{sound-rule, sound-range}
 use Rattle.space.proofs.ListLaws.{list-tuple}
@@ -90,7 +89,7 @@ module _ (config : Config) (safe : sound config ≡ true) (five : config .policy
     shared : Shared config tuples
     lawful : Lawful tuples
     only : (q : ℕ) → Announcing tuples q → q ≡ process
-    entries : (tuple : Tuple) → List·Memᴰ tuple tuples → isListTuple tuple ≡ true → (processOf tuple ≡ helper) × (serialOf tuple ≡ positionOf tuple)
+    entries : (tuple : Tuple) → List·Memᴰ tuple tuples → isListTuple tuple ≡ true → (listedProcess tuple ≡ helper) × (serialOf tuple ≡ positionOf tuple)
 
   state-none : State []
   state-none =
@@ -148,7 +147,7 @@ module _ (config : Config) (safe : sound config ≡ true) (five : config .policy
               (List·Memᴰ·append-cases tuples (a .stands));
           entries = λ tuple m shape. ⊎-elim
               (λ (old : List·Memᴰ tuple tuples). state .entries tuple old shape)
-              (λ (new : List·Memᴰ tuple (entry ∷ [])). let is = List·Memᴰ·eq-of-singleton new in (ap processOf is, ap serialOf is ∙ sym (ap positionOf is)))
+              (λ (new : List·Memᴰ tuple (entry ∷ [])). let is = List·Memᴰ·eq-of-singleton new in (ap listedProcess is, ap serialOf is ∙ sym (ap positionOf is)))
               (List·Memᴰ·append-cases tuples m);
         }
 

@@ -29,8 +29,7 @@ use Rattle.policy.proofs.ListingLaws.{list-rule, nothing-owed}
 use Rattle.space.specs.declared.config.Config.{Config}
 use Rattle.space.specs.declared.space.Space.{Space}
 use Rattle.space.specs.Configs.{sound}
-use Rattle.space.specs.Lists.{serialOf, shiftCode}
-use Rattle.space.specs.Shapes.{processOf}
+use Rattle.space.specs.Lists.{listedProcess, serialOf, shiftCode}
 use Rattle.space.specs.Spaces.{held, spaceOf}
 use Rattle.space.proofs.ConfigLaws.{sound-range, has-list-rule}
 use Rattle.space.proofs.SpaceRules.{Lawful, held-of, formed-of, place}
@@ -59,7 +58,7 @@ entries-length at [] = refl
 entries-length at (pick ∷ picks) = ap suc (entries-length (at + 1) picks)
 
 entries-picked : (at : ℕ) (picks : List Pick) (i : ℕ) → i < length picks
-    → (processOf (getD (entries at picks) i blankTuple) ≡ getD picks i noPick .process) × (shiftCode (getD (entries at picks) i blankTuple) ≡ getD picks i noPick .code)
+    → (listedProcess (getD (entries at picks) i blankTuple) ≡ getD picks i noPick .process) × (shiftCode (getD (entries at picks) i blankTuple) ≡ getD picks i noPick .code)
 unfolding entries
 entries-picked at [] i h = absurd (omega arith)
 entries-picked at (pick ∷ picks) zero h = (refl, refl)

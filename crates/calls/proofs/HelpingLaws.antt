@@ -25,8 +25,7 @@ use Rattle.space.specs.declared.config.Config.{Config}
 use Rattle.space.specs.declared.space.Space.{Space}
 use Rattle.space.specs.Announcements.{isAnnouncement, announcedSerial, Oldest}
 use Rattle.space.specs.Configs.{sound}
-use Rattle.space.specs.Lists.{positionOf, serialOf, shiftCode, Listed}
-use Rattle.space.specs.Shapes.{processOf}
+use Rattle.space.specs.Lists.{listedProcess, positionOf, serialOf, shiftCode, Listed}
 use Rattle.space.specs.Spaces.{held, spaceOf}
 use Rattle.space.proofs.SpaceRules.{held-of, place, stands}
 use Rattle.tuple.specs.declared.field.Tuple.{Tuple}
@@ -41,7 +40,7 @@ record Within (l : List Tuple) (from end process serial : ℕ) : Type 0 where
   late : from ≤ i
   soon : i < end
   filled : i < length l
-  by : processOf (getD l i blankTuple) ≡ process
+  by : listedProcess (getD l i blankTuple) ≡ process
   with-serial : serialOf (getD l i blankTuple) ≡ serial
 
 module _ (config : Config) (safe : sound config ≡ true) (five : config .policy ≡ 5) (process serial code position from : ℕ) (prefers : preferred (config .n) position ≡ process)
@@ -67,7 +66,7 @@ module _ (config : Config) (safe : sound config ≡ true) (five : config .policy
 
   -- what fills the position lists it
   filled-by : {tuples : List Tuple} {call : Call} → Shared config tuples → List·Memᴰ waiting tuples → (Listed tuples process serial → ⊥) → Lists config tuples call
-      → positionOf (call .entry) ≡ position → (processOf (call .entry) ≡ process) × (serialOf (call .entry) ≡ serial)
+      → positionOf (call .entry) ≡ position → (listedProcess (call .entry) ≡ process) × (serialOf (call .entry) ≡ serial)
   filled-by {tuples} {call} keeps m unlisted put at =
       let here : preferred (config .n) (positionOf (call .entry)) ≡ process = ap (preferred (config .n)) at ∙ prefers in
       ⊎-elim
@@ -88,7 +87,7 @@ module _ (config : Config) (safe : sound config ≡ true) (five : config .policy
         late = w .late;
         soon = w .soon;
         filled = omega (arith, w .filled, length-append l (entry ∷ []));
-        by = ap processOf kept ∙ w .by;
+        by = ap listedProcess kept ∙ w .by;
         with-serial = ap serialOf kept ∙ w .with-serial;
       }
 
@@ -99,14 +98,14 @@ module _ (config : Config) (safe : sound config ≡ true) (five : config .policy
       record { tuple = l .tuple; stands = m .0; shape = m .1; by = l .by; with-serial = l .with-serial }
 
   -- an entry of another process or serial lists neither
-  still-unlisted : (tuples next : List Tuple) (entry : Tuple) → listOf next ≡ listOf tuples ++ (entry ∷ []) → ((processOf entry ≡ process) × (serialOf entry ≡ serial) → ⊥)
+  still-unlisted : (tuples next : List Tuple) (entry : Tuple) → listOf next ≡ listOf tuples ++ (entry ∷ []) → ((listedProcess entry ≡ process) × (serialOf entry ≡ serial) → ⊥)
       → Listed next process serial → Listed tuples process serial
   still-unlisted tuples next entry longer differs found =
       ⊎-elim
       (λ (old : List·Memᴰ (found .tuple) (listOf tuples)). let m = listed-mem tuples old in
       record { tuple = found .tuple; stands = m .0; shape = m .1; by = found .by; with-serial = found .with-serial })
       (λ (new : List·Memᴰ (found .tuple) (entry ∷ [])). let is = List·Memᴰ·eq-of-singleton new in
-      absurd (differs (ap processOf (sym is) ∙ found .by, ap serialOf (sym is) ∙ found .with-serial)))
+      absurd (differs (ap listedProcess (sym is) ∙ found .by, ap serialOf (sym is) ∙ found .with-serial)))
       (List·Memᴰ·append-cases (listOf tuples) (rw longer at (mem-listed next (found .stands) (found .shape))))
 
   due-next : {tuples next : List Tuple} {call : Call} → Shared config tuples → List·Memᴰ waiting tuples → Grown config tuples call next → Due tuples → Due next
@@ -119,12 +118,12 @@ module _ (config : Config) (safe : sound config ≡ true) (five : config .policy
       let long : length (l ++ (entry ∷ [])) ≡ length l + 1 = length-append l (entry ∷ []) in
       let at : positionOf entry ≡ length l + 1 = next-position (keeps .list) (put .list) (put .none) in
       let seam : getD (l ++ (entry ∷ [])) (length l) blankTuple ≡ entry = getD-append-seam l entry [] blankTuple in
-      let here : processOf entry ≡ process → serialOf entry ≡ serial → Due next =
-      λ p s. listed (rw longer (record { i = length l; late = late; soon = soon; filled = omega (arith, long); by = ap processOf seam ∙ p; with-serial = ap serialOf seam ∙ s })) in
+      let here : listedProcess entry ≡ process → serialOf entry ≡ serial → Due next =
+      λ p s. listed (rw longer (record { i = length l; late = late; soon = soon; filled = omega (arith, long); by = ap listedProcess seam ∙ p; with-serial = ap serialOf seam ∙ s })) in
       cases (eqb (length l + 1) position)
       (λ e. let both = filled-by keeps m unlisted put (at ∙ eqb-true _ _ e) in here (both .0) (both .1))
       (λ e. let more : length l + 1 < position = omega (arith, eqb-false (length l + 1) position e) in
-      cases (eqb (processOf entry) process)
+      cases (eqb (listedProcess entry) process)
       (λ p. cases (eqb (serialOf entry) serial)
       (λ s. here (eqb-true _ _ p) (eqb-true _ _ s))
       (λ s. waits (λ found. unlisted (still-unlisted tuples next entry longer (λ same. eqb-false _ _ s (same .1)) found)) (rw longer (omega (arith, long))) (rw longer (omega (arith, long)))))

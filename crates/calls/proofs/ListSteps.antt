@@ -29,8 +29,7 @@ use Rattle.policy.proofs.ListingLaws.{list-match, list-rule, cas-permitted}
 use Rattle.space.specs.declared.config.Config.{Config}
 use Rattle.space.specs.Announcements.{isAnnouncement, announcerOf}
 use Rattle.space.specs.Configs.{sound, hasList}
-use Rattle.space.specs.Lists.{isListTuple, positionOf, serialOf, shiftCode}
-use Rattle.space.specs.Shapes.{processOf}
+use Rattle.space.specs.Lists.{listedProcess, isListTuple, positionOf, serialOf, shiftCode}
 use Rattle.space.specs.Spaces.{held, spaceOf}
 use Rattle.space.proofs.AnnouncementLaws.{announcement-parts}
 use Rattle.space.proofs.ConfigLaws.{sound-range, has-list-rule}
@@ -111,7 +110,7 @@ pub record Entry (i : ℕ) (tuple : Tuple) : Type 0 where
   pub some : shiftCode tuple ≡ bottom → ⊥
 
 abbrev Same : Tuple → Tuple → Type 0
-Same t u = (processOf t ≡ processOf u) × (serialOf t ≡ serialOf u)
+Same t u = (listedProcess t ≡ listedProcess u) × (serialOf t ≡ serialOf u)
 
 pub record Orderly (tuples : List Tuple) : Type 0 where
   pub each : (i : ℕ) → i < length tuples → Entry i (getD tuples i blankTuple)

@@ -34,8 +34,7 @@ use Rattle.space.specs.declared.config.Config.{Config}
 use Rattle.space.specs.declared.space.Space.{Space}
 use Rattle.space.specs.Announcements.{isAnnouncement, announcerOf, Announcing, Oldest}
 use Rattle.space.specs.Configs.{sound, hasList}
-use Rattle.space.specs.Lists.{isListTuple, positionOf, serialOf, shiftCode, lists, isThere, isFilled, isListed, Filled, Listed}
-use Rattle.space.specs.Shapes.{processOf}
+use Rattle.space.specs.Lists.{listedProcess, isListTuple, positionOf, serialOf, shiftCode, lists, isThere, isFilled, isListed, Filled, Listed}
 use Rattle.space.specs.Spaces.{held, spaceOf, wellFormed}
 use Rattle.space.proofs.AnnouncementLaws.{announcement-parts, announcement-rule}
 use Rattle.space.proofs.ConfigLaws.{sound-range, has-list-rule}
@@ -85,7 +84,7 @@ pub record Left (config : Config) (calls : List Call) : Type 0 where
 
 -- why an entry was due
 due-by : (config : Config) (tuples : List Tuple) (call : Call) → hasList config ≡ true → Lists config tuples call
-    → (call .process ≡ processOf (call .entry)) ⊎ ((config .policy ≡ 5) × Oldest tuples (processOf (call .entry)) (serialOf (call .entry)) (shiftCode (call .entry)))
+    → (call .process ≡ listedProcess (call .entry)) ⊎ ((config .policy ≡ 5) × Oldest tuples (listedProcess (call .entry)) (serialOf (call .entry)) (shiftCode (call .entry)))
 due-by config tuples call lists put =
     ⊎-elim
     (λ four. inl (sym (eqb-true _ _ (sym (nothing-owed config tuples call four) ∙ put .due))))
@@ -165,7 +164,7 @@ listing-rules config calls safe shares =
           let first = orderly-all orderly _ (mem-listed tuples (stands tuples i a) p) in
           let second = orderly-all orderly _ (mem-listed tuples (stands tuples j b) q) in
           let same = orderly .serials (first .0) (second .0) (first .1) (second .1)
-          (ap processOf (first .2) ∙ process ∙ sym (ap processOf (second .2)), ap serialOf (first .2) ∙ serial ∙ sym (ap serialOf (second .2))) in
+          (ap listedProcess (first .2) ∙ process ∙ sym (ap listedProcess (second .2)), ap serialOf (first .2) ∙ serial ∙ sym (ap serialOf (second .2))) in
           apart i j a b p q (first .3 .at ∙ ap (λ (k : ℕ). k + 1) same ∙ sym (second .3 .at)));
       some = λ tuple m p. orderly-all orderly tuple (mem-listed tuples (rw (end .holds) at m) p) .3 .some;
       listed-by = λ tuple m p. listed-by config safe shares calls tuple (mem-listed (held (last config calls)) m p);

@@ -15,8 +15,7 @@ use Rattle.policy.specs.Policies.{verdictOn}
 use Rattle.space.specs.declared.config.Config.{Config}
 use Rattle.space.specs.Announcements.{isAnnouncement, announcerOf, Announcing, Oldest}
 use Rattle.space.specs.Configs.{sound, hasList}
-use Rattle.space.specs.Lists.{isListTuple, positionOf, serialOf, shiftCode, Listed}
-use Rattle.space.specs.Shapes.{processOf}
+use Rattle.space.specs.Lists.{listedProcess, isListTuple, positionOf, serialOf, shiftCode, Listed}
 use Rattle.space.specs.Spaces.{held}
 use Rattle.tuple.specs.declared.field.Tuple.{Tuple}
 use Rattle.tuple.specs.declared.field.Call.{Call}
@@ -43,7 +42,7 @@ pub record ListingRule (config : Config) (calls : List Call) : Type 0 where
   pub one-serial : (i j : ℕ) → i < length (held (last config calls)) → j < length (held (last config calls))
       → isListTuple (getD (held (last config calls)) i blankTuple) ≡ true
       → isListTuple (getD (held (last config calls)) j blankTuple) ≡ true
-      → processOf (getD (held (last config calls)) i blankTuple) ≡ processOf (getD (held (last config calls)) j blankTuple)
+      → listedProcess (getD (held (last config calls)) i blankTuple) ≡ listedProcess (getD (held (last config calls)) j blankTuple)
       → serialOf (getD (held (last config calls)) i blankTuple) ≡ serialOf (getD (held (last config calls)) j blankTuple)
       → i ≡ j
   -- none has bottom for its shift
@@ -195,7 +194,7 @@ pub record ListedWithin (config : Config) (before end : List Call) (last-one pro
   pub late : length (listAfter config before) ≤ i
   pub soon : i < last-one
   pub filled : i < length (listAfter config end)
-  pub by : processOf (getD (listAfter config end) i blankTuple) ≡ process
+  pub by : listedProcess (getD (listAfter config end) i blankTuple) ≡ process
   pub with-serial : serialOf (getD (listAfter config end) i blankTuple) ≡ serial
 
 -- if it stands until a position behind the out that prefers its process is filled, it is listed there or before
@@ -293,7 +292,7 @@ noPick = record { process = 0; code = 0 }
 -- the list is that of the picks, position by position
 pub record Picked (config : Config) (calls : List Call) (picks : List Pick) : Type 0 where
   pub many : length (listAfter config calls) ≡ length picks
-  pub by : (i : ℕ) → i < length picks → processOf (getD (listAfter config calls) i blankTuple) ≡ getD picks i noPick .process
+  pub by : (i : ℕ) → i < length picks → listedProcess (getD (listAfter config calls) i blankTuple) ≡ getD picks i noPick .process
   pub shifted : (i : ℕ) → i < length picks → shiftCode (getD (listAfter config calls) i blankTuple) ≡ getD picks i noPick .code
 
 -- whatever is picked for 1 to m, m at most 112, there is a run in which the list is that and all processes have read all of it
@@ -317,7 +316,7 @@ pub record HelpedRun (config : Config) (process : ℕ) : Type 0 where
   pub helper : ℕ
   pub other : helper ≡ process → ⊥
   pub standing : Standing config before calls process serial code
-  pub lost : processOf (getD (listAfter config (before ++ (announceOut process serial code ∷ calls))) (length (listAfter config before)) blankTuple) ≡ helper
+  pub lost : listedProcess (getD (listAfter config (before ++ (announceOut process serial code ∷ calls))) (length (listAfter config before)) blankTuple) ≡ helper
   pub position : ℕ
   pub soon : position ≤ length (listAfter config before) + config .n
   pub helped : applied (last config (before ++ (announceOut process serial code ∷ calls))) (listFor helper position process serial code) .reply .outcome ≡ Inserted

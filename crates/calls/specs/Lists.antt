@@ -9,8 +9,7 @@ use lib.IntN.{ℤ, pos, _+ℤ_}
 use Rattle.calls.specs.Turns.{Turn, applied, turns, last}
 use Rattle.space.specs.declared.config.Config.{Config}
 use Rattle.space.specs.Announcements.{Oldest}
-use Rattle.space.specs.Lists.{isListTuple, positionOf, serialOf, shiftCode}
-use Rattle.space.specs.Shapes.{processOf}
+use Rattle.space.specs.Lists.{listedProcess, isListTuple, positionOf, serialOf, shiftCode}
 use Rattle.space.specs.Spaces.{held}
 use Rattle.tuple.specs.declared.field.Tuple.{Tuple}
 use Rattle.tuple.specs.declared.field.Call.{Call}
@@ -50,7 +49,7 @@ pub record OwnCas (made : List Turn) (tuple : Tuple) : Type 0 where
   pub occurs : List·Memᴰ turn made
   pub code : turn .call .code ≡ cas
   pub entry : turn .call .entry ≡ tuple
-  pub own : turn .call .process ≡ processOf tuple
+  pub own : turn .call .process ≡ listedProcess tuple
   pub inserted : turn .reply .outcome ≡ Inserted
 
 -- the tuple was inserted by a cas: of its own process; or, under policy 5, of another, and then it is the oldest announcement of its process that stood at that call
@@ -62,7 +61,7 @@ pub record ListedBy (config : Config) (calls : List Call) (tuple : Tuple) : Type
   pub code : call .code ≡ cas
   pub entry : call .entry ≡ tuple
   pub inserted : applied (last config before) call .reply .outcome ≡ Inserted
-  pub by : (call .process ≡ processOf tuple) ⊎ ((config .policy ≡ 5) × Oldest (held (last config before)) (processOf tuple) (serialOf tuple) (shiftCode tuple))
+  pub by : (call .process ≡ listedProcess tuple) ⊎ ((config .policy ≡ 5) × Oldest (held (last config before)) (listedProcess tuple) (serialOf tuple) (shiftCode tuple))
 
 -- ---- reading it
 

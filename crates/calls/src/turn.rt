@@ -9,11 +9,11 @@ use crate::effect::refused;
 use policy::Verdict;
 use policy::verdict;
 use space::Space;
+use space::is_bounded;
 use tuple::Call;
 use tuple::Fault;
 use tuple::Refusal;
 use tuple::Reply;
-use tuple::TUPLES;
 
 // What a call on a space answers, and the space afterwards.
 pub struct Applied {
@@ -46,11 +46,7 @@ pub fn apply(space: Space, call: Call) -> Applied
 pub fn judge_unchecked(space: Space, call: Call) -> Effect
     ensures { λ r. ⌜ r ≡ judged space call ⌝ }
 {
-    let config = space.config;
-    if !config.is_sound() {
-        return refused(Refusal::Unsound);
-    }
-    if TUPLES < space.count {
+    if !is_bounded(space.config, space.count) {
         return refused(Refusal::Unsound);
     }
     let first = first_refusal(space, call);

@@ -24,8 +24,7 @@ use Rattle.record.proofs.WrittenLaws.{bytes-defined, bytes-bare, tuple-length, 
 use Rattle.script.specs.Scripts.{setUpBytes, recordsBytes}
 use Rattle.space.specs.declared.config.Config.{Config}
 use Rattle.space.specs.Configs.{sound}
-use Rattle.space.specs.Lists.{isListTuple, positionOf, shiftCode}
-use Rattle.space.specs.Shapes.{processOf}
+use Rattle.space.specs.Lists.{listedProcess, isListTuple, positionOf, shiftCode}
 use Rattle.space.proofs.ConfigLaws.{sound-range, sound-choices, Deciding, proposals-deciding}
 use Rattle.space.proofs.ListLaws.{list-parts}
 use Rattle.space.proofs.ShapeLaws.{four, proposal-parts}
@@ -212,7 +211,7 @@ module _ (template : Tuple) (long : length (template .fields) ≡ places) (h : t
 
 -- a list tuple: its position and its process have one byte each, its serial five at most, and its shift three
 list-tuple-most : (tuple : Tuple) → length (tuple .fields) ≡ places → tupleFault true tuple ≡ Absent → isListTuple tuple ≡ true
-    → positionOf tuple ≤ positions → processOf tuple < 128 → length (tupleBytes tuple) ≤ 17
+    → positionOf tuple ≤ positions → listedProcess tuple < 128 → length (tupleBytes tuple) ≤ 17
 unfolding largestOf
 list-tuple-most tuple long h shape low short =
     let parts = list-parts tuple shape in
@@ -236,7 +235,7 @@ list-tuple-most tuple long h shape low short =
       value-length count (field tuple 1) (parts .position) (omega arith),
       width-one (positionOf tuple) (omega arith),
       value-length count (field tuple 2) (parts .process) (omega arith),
-      width-one (processOf tuple) short,
+      width-one (listedProcess tuple) short,
       field-most (at 3 (omega arith)),
       value-length offset (field tuple 4) (parts .shift) (omega arith),
       code-most (shiftCode tuple) code,
@@ -298,7 +297,7 @@ module _ (config : Config) (tuple : Tuple) (call : Call) (sound : Sound call) (s
       omega (arith, deciding-most config (proposals-deciding config rests), cas-length call short (by .code))
   record-most (Appends.listing is-four shape by) =
       let position : positionOf (call .entry) ≤ positions = omega (arith, ap positionOf (by .entry), low is-four) in
-      let process : processOf (call .entry) < 128 = omega (arith, ap processOf (by .entry), by .by) in
+      let process : listedProcess (call .entry) < 128 = omega (arith, ap listedProcess (by .entry), by .by) in
       let entry = list-tuple-most (call .entry) (sound .typed .entry) (entry-faultless call (sound .faultless) (inr (by .code))) (ap isListTuple (by .entry) ∙ shape) position process in
       let template = list-template-most (call .template) (sound .typed .template) (template-faultless call (sound .faultless) (by .code)) (by .template) (omega (arith, by .position, low is-four)) in
       omega (arith, listing-most config is-four, cas-length call short (by .code))

@@ -3,13 +3,14 @@ use Prim.Native.Nat.{ℕ, _+_, _*_}
 use mathlib.Core.Bool.{Bool, true, false, cond, _&&_}
 use mathlib.Core.List.{List, [], _∷_, _++_, map}
 use lib.ListN.{length, drop}
-use lib.Dec.{leb, eqb}
+use lib.Dec.{leb}
 use Rattle.dump.specs.Appending.{callOf}
 use Rattle.calls.specs.Turns.{Turn, turns}
 use Rattle.record.specs.declared.writer.Recorded.{Recorded}
 use Rattle.record.specs.declared.writer.Recorded.the-variants.{Length, Unwritten}
 use Rattle.script.specs.Scripts.{setUpBytes, recordsBytes}
 use Rattle.space.specs.declared.space.Space.{Space}
+use Rattle.space.specs.Configs.{hasAnnouncements}
 use Rattle.space.specs.Spaces.{held, wellFormed}
 use Rattle.tuple.specs.declared.field.Call.{Call}
 use Rattle.tuple.specs.declared.reply.Outcome.{Outcome}
@@ -57,7 +58,7 @@ isReached space = allAppended (turns (space .config) (dumpCalls space))
 unfoldable pub writtenOf : Space → ℕ → Recorded
 writtenOf space room =
     cond (wellFormed space)
-    (cond (eqb (space .config .policy) 5) (Unwritten (refusal 15))
+    (cond (hasAnnouncements (space .config)) (Unwritten (refusal 15))
     (cond (isReached space)
     (cond (leb (length (dumpBytes space)) room) (Length (length (dumpBytes space))) (Unwritten (refusal 10)))
     (Unwritten (refusal 14))))

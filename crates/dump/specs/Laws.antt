@@ -14,7 +14,7 @@ use Rattle.script.specs.Scripts.{Opened, ran}
 use Rattle.space.specs.declared.config.Config.{Config}
 use Rattle.space.specs.declared.space.Space.{Space}
 use Rattle.space.specs.Configs.{sound, hasProposals}
-use Rattle.space.specs.Lists.{isListTuple, positionOf}
+use Rattle.space.specs.Lists.{listedProcess, isListTuple, positionOf}
 use Rattle.space.specs.Shapes.{isProposal, roundOf, processOf}
 use Rattle.space.specs.Spaces.{held, spaceOf, wellFormed, Typed}
 use Rattle.tuple.specs.declared.fault.Fault.{Fault}
@@ -49,7 +49,7 @@ pub record CasOf (shape : Tuple → Bool) (tuple : Tuple) (call : Call) : Type 0
 
 -- a cas of the tuple by its own process, with a template of a list tuple's position, which is the tuple's
 pub record ListCasOf (tuple : Tuple) (call : Call) : Type 0 where
-  pub by : call .process ≡ processOf tuple
+  pub by : call .process ≡ listedProcess tuple
   pub code : call .code ≡ cas
   pub template : isListTemplate (call .template) ≡ true
   pub position : positionOf (call .template) ≡ positionOf tuple

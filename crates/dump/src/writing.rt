@@ -30,7 +30,7 @@ pub fn write(space: Space, buffer: &mut [u8]) -> Recorded
     ensures { λ r. ⌜ r ≡ writtenOf space (length (now (buffer .entry))) ⌝ }
     ensures { λ _. ⌜ now (buffer .exit) ≡ leftOf space (now (buffer .entry)) ⌝ }
 {
-    if space.config.policy == 5 {
+    if space.config.has_announcements() {
         return unscripted(space);
     }
     write_script(space, buffer)
@@ -84,7 +84,7 @@ fn set_up_width(config: Config) -> usize
     requires { ⌜ sound config ≡ true ⌝ }
     ensures { λ r. ⌜ r ≡ length (setUpBytes config) ⌝ }
 {
-    if config.policy == 3 { 4 } else { 3 }
+    if config.has_choices() { 4 } else { 3 }
 }
 
 fn records_width(space: Space) -> usize
@@ -125,7 +125,7 @@ fn put_set_up(buffer: &mut [u8], config: Config)
     buffer[0] = config.n as u8;
     buffer[1] = config.t as u8;
     buffer[2] = config.policy as u8;
-    if config.policy == 3 {
+    if config.has_choices() {
         buffer[3] = config.k as u8;
     }
 }

@@ -14,12 +14,11 @@ use Rattle.policy.specs.Listing.{preferred, waiting, owed, isOwn, isDueB
 use Rattle.policy.proofs.ListingLaws.{cas-permitted}
 use Rattle.policy.proofs.PolicyLaws.{demanded, under-shared}
 use Rattle.space.specs.declared.announcement.Announced.{Announced}
-use Rattle.space.specs.declared.announcement.Announced.the-variants.{Waits, Silent}
+use Rattle.space.specs.declared.announcement.Announced.the-variants.{Shift, Silent}
 use Rattle.space.specs.declared.config.Config.{Config}
 use Rattle.space.specs.Announcements.{isAnnouncement, announcerOf, announcedOf, Announcing}
 use Rattle.space.specs.Configs.{hasList}
-use Rattle.space.specs.Lists.{positionOf, serialOf, shiftCode, isListed}
-use Rattle.space.specs.Shapes.{processOf}
+use Rattle.space.specs.Lists.{listedProcess, positionOf, serialOf, shiftCode, isListed}
 use Rattle.space.proofs.AnnouncementLaws.{announced-rules}
 use Rattle.space.proofs.ConfigLaws.{has-list-rule}
 use Rattle.space.proofs.ListLaws.{listed-rule}
@@ -45,7 +44,7 @@ lists-five config five = has-list-rule config .1 (inr five)
 silent-rule : (tuples : List Tuple) (process : ℕ) → (isSilent (announcedOf tuples process) ≡ true) ↔ (Announcing tuples process → ⊥)
 silent-rule tuples process =
     let rule = announced-rules tuples process .silent in
-    let silent : (said : Announced) → isSilent said ≡ true → said ≡ Silent = λ said. elim said [ Waits serial code ↦ λ h. absurd (false≢true h) | Silent ↦ λ h. refl ] in
+    let silent : (said : Announced) → isSilent said ≡ true → said ≡ Silent = λ said. elim said [ Shift serial code ↦ λ h. absurd (false≢true h) | Silent ↦ λ h. refl ] in
     (λ h. rule .0 (silent (announcedOf tuples process) h), λ none. ap isSilent (rule .1 none))
 
 pub announce-rule : AnnounceRule
@@ -106,28 +105,28 @@ module _ (config : Config) (tuples : List Tuple) (call : Call) (five : config .p
   due-means : (said : Announced) → announcedOf tuples process ≡ said → isDue config tuples call ≡ true → Helps config tuples call ⊎ Alone config tuples call
   due-means Silent e due =
       inr (record { own = eqb-true _ _ (sym (due-by Silent e) ∙ due); free = inl (announced-rules tuples process .silent .0 e) })
-  due-means (Waits serial code) e due =
-      let oldest = announced-rules tuples process .waits serial code .0 e in
+  due-means (Shift serial code) e due =
+      let oldest = announced-rules tuples process .shift serial code .0 e in
       cases (isListed tuples process serial)
-      (λ l. let own : isOwn call ≡ true = sym (due-by (Waits serial code) e ∙ rw l) ∙ due in
+      (λ l. let own : isOwn call ≡ true = sym (due-by (Shift serial code) e ∙ rw l) ∙ due in
       inr (record { own = eqb-true _ _ own; free = inr (serial, code, oldest, listed-rule tuples process serial .0 l) }))
-      (λ l. let owed : eqb (processOf entry) process && eqb (serialOf entry) serial && eqb (shiftCode entry) code ≡ true = sym (due-by (Waits serial code) e ∙ rw l) ∙ due in
-      let last = and-eq-true-iff (eqb (processOf entry) process && eqb (serialOf entry) serial) _ .0 owed in
-      let same = and-eq-true-iff (eqb (processOf entry) process) _ .0 (last .0) in
+      (λ l. let owed : eqb (listedProcess entry) process && eqb (serialOf entry) serial && eqb (shiftCode entry) code ≡ true = sym (due-by (Shift serial code) e ∙ rw l) ∙ due in
+      let last = and-eq-true-iff (eqb (listedProcess entry) process && eqb (serialOf entry) serial) _ .0 owed in
+      let same = and-eq-true-iff (eqb (listedProcess entry) process) _ .0 (last .0) in
       inl (record { by = eqb-true _ _ (same .0); oldest = rw (eqb-true (serialOf entry) serial (same .1), eqb-true (shiftCode entry) code (last .1)) oldest }))
 
   means-due : Helps config tuples call ⊎ Alone config tuples call → isDue config tuples call ≡ true
   means-due (inl helps) =
-      let e = announced-rules tuples process .waits (serialOf entry) (shiftCode entry) .1 (helps .oldest) in
+      let e = announced-rules tuples process .shift (serialOf entry) (shiftCode entry) .1 (helps .oldest) in
       let unlisted : isListed tuples process (serialOf entry) ≡ false =
       cases (isListed tuples process (serialOf entry))
       (λ l. absurd (list .unlisted (rw (helps .by) (listed-rule tuples process (serialOf entry) .0 l))))
       (λ l. l) in
-      due-by (Waits (serialOf entry) (shiftCode entry)) e ∙ rw (unlisted, eq-eqb (processOf entry) process (helps .by), eq-eqb (serialOf entry) (serialOf entry) refl, eq-eqb (shiftCode entry) (shiftCode entry) refl) refl
+      due-by (Shift (serialOf entry) (shiftCode entry)) e ∙ rw (unlisted, eq-eqb (listedProcess entry) process (helps .by), eq-eqb (serialOf entry) (serialOf entry) refl, eq-eqb (shiftCode entry) (shiftCode entry) refl) refl
   means-due (inr alone) =
       ⊎-elim
       (λ none. due-by Silent (announced-rules tuples process .silent .1 none) ∙ eq-eqb _ _ (alone .own))
-      (λ stood. due-by (Waits (stood .0) (stood .1)) (announced-rules tuples process .waits (stood .0) (stood .1) .1 (stood .2))
+      (λ stood. due-by (Shift (stood .0) (stood .1)) (announced-rules tuples process .shift (stood .0) (stood .1) .1 (stood .2))
       ∙ rw (listed-rule tuples process (stood .0) .1 (stood .3)) (eq-eqb _ _ (alone .own)))
       (alone .free)
 

@@ -17,8 +17,7 @@ use Rattle.policy.proofs.DecisionLaws.{said}
 use Rattle.policy.proofs.PolicyLaws.{demanded, under-shared, otherwise-rule}
 use Rattle.space.specs.declared.config.Config.{Config}
 use Rattle.space.specs.Configs.{hasProposals, hasList}
-use Rattle.space.specs.Lists.{isListTuple, positionOf, serialOf, shiftCode, isListed, Filled, Listed}
-use Rattle.space.specs.Shapes.{processOf}
+use Rattle.space.specs.Lists.{listedProcess, isListTuple, positionOf, serialOf, shiftCode, isListed, Filled, Listed}
 use Rattle.space.proofs.ConfigLaws.{proposals-deciding, has-list-rule}
 use Rattle.space.proofs.ListLaws.{list-parts, filled-rule, listed-rule}
 use Rattle.space.proofs.ShapeLaws.{four, within-fields}
@@ -123,12 +122,12 @@ same-position template entry = (
   λ h. rw (eq-eqb (positionOf template) (positionOf entry) (h .0), le-leb 1 (positionOf entry) (h .1), le-leb (positionOf entry) positions (h .2)),
 )
 
-new-rule : (tuples : List Tuple) (entry : Tuple) → (isNew tuples entry ≡ true) ↔ (Listed tuples (processOf entry) (serialOf entry) → ⊥)
+new-rule : (tuples : List Tuple) (entry : Tuple) → (isNew tuples entry ≡ true) ↔ (Listed tuples (listedProcess entry) (serialOf entry) → ⊥)
 unfolding isNew
 new-rule tuples entry =
-    let rule = listed-rule tuples (processOf entry) (serialOf entry) in (
-      λ h l. let test : not (isListed tuples (processOf entry) (serialOf entry)) ≡ true = h in false≢true (rw (rule .1 l) at test),
-      λ none. cases (isListed tuples (processOf entry) (serialOf entry)) (λ e. absurd (none (rule .0 e))) (λ e. rw e),
+    let rule = listed-rule tuples (listedProcess entry) (serialOf entry) in (
+      λ h l. let test : not (isListed tuples (listedProcess entry) (serialOf entry)) ≡ true = h in false≢true (rw (rule .1 l) at test),
+      λ none. cases (isListed tuples (listedProcess entry) (serialOf entry)) (λ e. absurd (none (rule .0 e))) (λ e. rw e),
     )
 
 shift-rule : (code : ℕ) → (isShift code ≡ true) ↔ (code ≡ bottom → ⊥)

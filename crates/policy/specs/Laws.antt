@@ -13,7 +13,7 @@ use Rattle.space.specs.declared.config.Config.{Config}
 use Rattle.space.specs.declared.space.Space.{Space}
 use Rattle.space.specs.Configs.{hasProposals, hasList}
 use Rattle.space.specs.Announcements.{isAnnouncement, announcerOf, Announcing, Oldest}
-use Rattle.space.specs.Lists.{isListTuple, positionOf, serialOf, shiftCode, Filled, Listed}
+use Rattle.space.specs.Lists.{listedProcess, isListTuple, positionOf, serialOf, shiftCode, Filled, Listed}
 use Rattle.space.specs.Members.{Member}
 use Rattle.space.specs.Proposals.{offered, decidable, Placed, Proposed}
 use Rattle.space.specs.Shapes.{roundOf, isProposal, processOf, proposedCode}
@@ -174,7 +174,7 @@ pub record ListCall (tuples : List Tuple) (call : Call) : Type 0 where
   pub first : 1 ≤ positionOf (call .entry)
   pub most : positionOf (call .entry) ≤ 112
   pub some : shiftCode (call .entry) ≡ 0 → ⊥
-  pub unlisted : Listed tuples (processOf (call .entry)) (serialOf (call .entry)) → ⊥
+  pub unlisted : Listed tuples (listedProcess (call .entry)) (serialOf (call .entry)) → ⊥
   pub follows : (positionOf (call .entry) ≡ 1) ⊎ Filled tuples (positionOf (call .entry) - 1)
 
 -- rdp is always permitted
@@ -197,7 +197,7 @@ ListRule =
     (config : Config) (tuples : List Tuple) (call : Call)
     → config .policy ≡ 4
     → (verdictOn config tuples call ≡ Permit)
-    ↔ ((call .code ≡ 2) ⊎ ((call .code ≡ 4) × ListCall tuples call × (processOf (call .entry) ≡ call .process)))
+    ↔ ((call .code ≡ 2) ⊎ ((call .code ≡ 4) × ListCall tuples call × (listedProcess (call .entry) ≡ call .process)))
 
 -- ---- policy 5 alone
 
@@ -239,12 +239,12 @@ TakeOffRule =
 
 -- a cas may list the process, serial and shift of the preferred process's oldest announcement, whoever calls
 pub record Helps (config : Config) (tuples : List Tuple) (call : Call) : Type 0 where
-  pub by : processOf (call .entry) ≡ preferred (config .n) (positionOf (call .entry))
+  pub by : listedProcess (call .entry) ≡ preferred (config .n) (positionOf (call .entry))
   pub oldest : Oldest tuples (preferred (config .n) (positionOf (call .entry))) (serialOf (call .entry)) (shiftCode (call .entry))
 
 -- or the caller's own, if there is none or its process and serial are already listed
 pub record Alone (config : Config) (tuples : List Tuple) (call : Call) : Type 0 where
-  pub own : processOf (call .entry) ≡ call .process
+  pub own : listedProcess (call .entry) ≡ call .process
   pub free : (Announcing tuples (preferred (config .n) (positionOf (call .entry))) → ⊥)
       ⊎ ((serial : ℕ) × (code : ℕ)
       × Oldest tuples (preferred (config .n) (positionOf (call .entry))) serial code

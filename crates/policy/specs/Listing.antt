@@ -7,11 +7,11 @@ use Rattle.policy.specs.declared.verdicts.Verdict.{Verdict}
 use Rattle.policy.specs.declared.verdicts.Verdict.the-variants.{Permit, Refuse}
 use Rattle.policy.specs.Verdicts.{demand}
 use Rattle.space.specs.declared.announcement.Announced.{Announced}
-use Rattle.space.specs.declared.announcement.Announced.the-variants.{Waits, Silent}
+use Rattle.space.specs.declared.announcement.Announced.the-variants.{Shift, Silent}
 use Rattle.space.specs.declared.config.Config.{Config}
 use Rattle.space.specs.Announcements.{isAnnouncement, announcerOf, announcedOf}
-use Rattle.space.specs.Lists.{isListTuple, positionOf, serialOf, shiftCode, isFilled, isListed}
-use Rattle.space.specs.Shapes.{processOf}
+use Rattle.space.specs.Configs.{hasAnnouncements}
+use Rattle.space.specs.Lists.{listedProcess, isListTuple, positionOf, serialOf, shiftCode, isFilled, isListed}
 use Rattle.tuple.specs.declared.field.Tuple.{Tuple}
 use Rattle.tuple.specs.declared.field.Call.{Call}
 use Rattle.tuple.specs.Fields.{out, rdp, inp, cas}
@@ -50,7 +50,7 @@ isListCall call =
 
 -- the entry's process and serial are not listed yet
 unfoldable pub isNew : List Tuple → Tuple → Bool
-isNew tuples entry = not (isListed tuples (processOf entry) (serialOf entry))
+isNew tuples entry = not (isListed tuples (listedProcess entry) (serialOf entry))
 
 -- position 1 is free to begin; no cas has position 0
 unfoldable pub begins : ℕ → Bool
@@ -69,21 +69,21 @@ preferred n position = cond (eqb (position % n) 0) n (position % n)
 -- an announcement of a process waits while its serial is not listed
 abbrev pub waiting : List Tuple → ℕ → Announced → Announced
 waiting tuples process Silent = Silent
-waiting tuples process (Waits serial code) = cond (isListed tuples process serial) Silent (Waits serial code)
+waiting tuples process (Shift serial code) = cond (isListed tuples process serial) Silent (Shift serial code)
 
 -- what is owed at a position: under policy 5 the oldest announcement of its preferred process, if that waits; under policy 4 nothing ever is
 unfoldable pub owed : Config → List Tuple → ℕ → Announced
 owed config tuples position =
-    cond (eqb (config .policy) 5) (waiting tuples (preferred (config .n) position) (announcedOf tuples (preferred (config .n) position))) Silent
+    cond (hasAnnouncements config) (waiting tuples (preferred (config .n) position) (announcedOf tuples (preferred (config .n) position))) Silent
 
 -- the entry is of the caller's own number
 abbrev pub isOwn : Call → Bool
-isOwn call = eqb (processOf (call .entry)) (call .process)
+isOwn call = eqb (listedProcess (call .entry)) (call .process)
 
 -- what is owed, by any caller; or, where nothing is, an entry of the caller's own number
 abbrev pub isDueBy : ℕ → Call → Announced → Bool
 isDueBy process call Silent = isOwn call
-isDueBy process call (Waits serial code) = eqb (processOf (call .entry)) process && eqb (serialOf (call .entry)) serial && eqb (shiftCode (call .entry)) code
+isDueBy process call (Shift serial code) = eqb (listedProcess (call .entry)) process && eqb (serialOf (call .entry)) serial && eqb (shiftCode (call .entry)) code
 
 unfoldable pub isDue : Config → List Tuple → Call → Bool
 isDue config tuples call = isDueBy (preferred (config .n) (positionOf (call .entry))) call (owed config tuples (positionOf (call .entry)))
@@ -94,13 +94,13 @@ mayList config tuples call = isListCall call && isDue config tuples call && isNe
 -- ---- out and inp, under policy 5
 
 abbrev pub isSilent : Announced → Bool
-isSilent (Waits serial code) = false
+isSilent (Shift serial code) = false
 isSilent Silent = true
 
 -- an announcement of the caller's own number, while none of its own stands
 unfoldable pub mayAnnounce : Config → List Tuple → Call → Bool
 mayAnnounce config tuples call =
-    eqb (config .policy) 5
+    hasAnnouncements config
     && isAnnouncement (call .entry)
     && eqb (announcerOf (call .entry)) (call .process)
     && isSilent (announcedOf tuples (call .process))
@@ -108,7 +108,7 @@ mayAnnounce config tuples call =
 -- word 4 and the caller's own number given, the other two undefined
 unfoldable pub mayTakeOff : Config → Call → Bool
 mayTakeOff config call =
-    eqb (config .policy) 5 && hasShape announcementTemplateShape (call .template) && eqb (announcerOf (call .template)) (call .process)
+    hasAnnouncements config && hasShape announcementTemplateShape (call .template) && eqb (announcerOf (call .template)) (call .process)
 
 -- ---- by the call
 

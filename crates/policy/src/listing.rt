@@ -4,7 +4,7 @@ ghost use mathlib.Core.Bool.{true, cond};
 ghost use Rattle.policy.specs.declared.verdicts.Verdict.the-variants.{Permit};
 ghost use Rattle.policy.specs.Listing.{isListTemplate, samePosition, isListCall, isNew, follows as follows·, preferred as preferred·, owed as owed·, isDue, mayList, isSilent, mayAnnounce, mayTakeOff, shared as shared·};
 ghost use Rattle.policy.specs.Verdicts.{demand};
-ghost use Rattle.space.specs.declared.announcement.Announced.the-variants.{Waits, Silent};
+ghost use Rattle.space.specs.declared.announcement.Announced.the-variants.{Shift, Silent};
 ghost use Rattle.space.specs.Configs.{sound};
 ghost use Rattle.space.specs.Spaces.{held};
 ghost use Rattle.tuple.specs.Refusals.{refusal};
@@ -161,7 +161,7 @@ fn is_due(space: Space, call: Call) -> bool
     let process = preferred(space.config, second.value);
     match owed(space, second.value) {
         Announced::Silent => third.value == caller,
-        Announced::Waits(serial, code) => all_three(
+        Announced::Shift(serial, code) => all_three(
             third.value == process,
             fourth.value == serial,
             fifth.value == code,
@@ -174,24 +174,24 @@ fn owed(space: Space, position: u64) -> Announced
     requires { ⌜ sound (space .config) ≡ true ⌝ }
     ensures { λ r. ⌜ r ≡ owed· (space .config) (held space) position ⌝ }
 {
-    if space.config.policy != 5 {
+    if !space.config.has_announcements() {
         return Announced::Silent;
     }
     let process = preferred(space.config, position);
     match oldest_announced(space, process) {
         Announced::Silent => Announced::Silent,
-        Announced::Waits(serial, code) => waiting(is_listed(space, process, serial), serial, code),
+        Announced::Shift(serial, code) => waiting(is_listed(space, process, serial), serial, code),
     }
 }
 
 // An announcement, unless its serial is listed.
 fn waiting(listed: bool, serial: u64, code: u64) -> Announced
-    ensures { λ r. ⌜ r ≡ cond listed Silent (Waits serial code) ⌝ }
+    ensures { λ r. ⌜ r ≡ cond listed Silent (Shift serial code) ⌝ }
 {
     if listed {
         Announced::Silent
     } else {
-        Announced::Waits(serial, code)
+        Announced::Shift(serial, code)
     }
 }
 
@@ -214,9 +214,10 @@ fn may_announce(space: Space, call: Call) -> bool
     let entry = call.entry;
     let second = entry.fields[1];
     let caller = call.process as u64;
-    let config = space.config;
-    all_four(
-        config.policy == 5,
+    if !space.config.has_announcements() {
+        return false;
+    }
+    all_three(
         is_announcement(entry),
         second.value == caller,
         is_silent(oldest_announced(space, caller)),
@@ -227,7 +228,7 @@ fn is_silent(said: Announced) -> bool
     ensures { λ r. ⌜ r ≡ isSilent said ⌝ }
 {
     match said {
-        Announced::Waits(_, _) => false,
+        Announced::Shift(_, _) => false,
         Announced::Silent => true,
     }
 }
@@ -240,7 +241,7 @@ fn may_take_off(config: Config, call: Call) -> bool
     let second = template.fields[1];
     let caller = call.process as u64;
     all_three(
-        config.policy == 5,
+        config.has_announcements(),
         has_shape(template, ANNOUNCEMENT_TEMPLATE),
         second.value == caller,
     )

@@ -9,19 +9,15 @@ use crate::listing::shared;
 use crate::verdicts::Verdict;
 use crate::weak::weak;
 use space::Space;
+use space::is_bounded;
 use tuple::Call;
 use tuple::Refusal;
-use tuple::TUPLES;
 
 // The verdict of the space's policy on a call. On a space whose configuration or count is out of bounds it is 1.
 pub fn verdict(space: Space, call: Call) -> Verdict
     ensures { λ r. ⌜ r ≡ verdict· space call ⌝ }
 {
-    let config = space.config;
-    if !config.is_sound() {
-        return Verdict::Refuse(Refusal::Unsound);
-    }
-    if TUPLES < space.count {
+    if !is_bounded(space.config, space.count) {
         return Verdict::Refuse(Refusal::Unsound);
     }
     verdict_on(space, call)

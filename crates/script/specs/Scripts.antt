@@ -4,7 +4,7 @@ use Prim.Native.Nat.{ℕ, zero, suc, _≤_, _<_}
 use mathlib.Core.Bool.{cond}
 use mathlib.Core.List.{List, [], _∷_, _++_}
 use lib.ListN.{length}
-use lib.Dec.{leb, ltb, eqb}
+use lib.Dec.{leb, ltb}
 use Rattle.script.specs.declared.setup.ReadConfig.{ReadConfig}
 use Rattle.calls.specs.Turns.{lastOf, Turn, turnsFrom}
 use Rattle.record.specs.declared.reader.Next.{Next}
@@ -17,7 +17,7 @@ use Rattle.space.specs.declared.config.Config.{Config}
 use Rattle.space.specs.declared.space.Opening.{Opening}
 use Rattle.space.specs.declared.space.Opening.the-variants as opening
 use Rattle.space.specs.declared.space.Space.{Space}
-use Rattle.space.specs.Configs.{blankConfig}
+use Rattle.space.specs.Configs.{blankConfig, hasChoices}
 use Rattle.space.specs.Spaces.{freshOf}
 use Rattle.tuple.specs.declared.fault.Fault.{Fault}
 use Rattle.tuple.specs.declared.fault.Fault.the-variants.{Absent, Present}
@@ -43,7 +43,7 @@ kStep config k =
 
 -- k is read under policy 3 only, and it is 0 under the others
 abbrev pub behindPolicy : List ℕ → Config → ℕ → ReadConfig
-behindPolicy s config next = cond (eqb (config .policy) 3) (kStep config (readNumber s next)) (record { next = place next; config = config })
+behindPolicy s config next = cond (hasChoices config) (kStep config (readNumber s next)) (record { next = place next; config = config })
 
 abbrev pub policyStep : ℕ → ℕ → List ℕ → ReadNumber → ReadConfig
 policyStep n t s policy = onward (policy .next) (behindPolicy s (record { n = n; t = t; policy = policy .value; k = 0 })) noConfig
@@ -57,7 +57,7 @@ configOf s = let n = readNumber s 0 in onward (n .next) (λ next. tStep (n .valu
 -- the bytes of a set-up
 unfoldable pub setUpBytes : Config → List ℕ
 setUpBytes config =
-    bytesOf (config .n) ++ bytesOf (config .t) ++ bytesOf (config .policy) ++ cond (eqb (config .policy) 3) (bytesOf (config .k)) []
+    bytesOf (config .n) ++ bytesOf (config .t) ++ bytesOf (config .policy) ++ cond (hasChoices config) (bytesOf (config .k)) []
 
 -- ---- the records, to the end of the script
 

@@ -3,8 +3,8 @@ use Prim.Native.Nat.{ℕ}
 use mathlib.Core.Bool.{cond}
 use mathlib.Core.List.{List, [], _∷_, _++_}
 use lib.ListN.{length}
-use lib.Dec.{eqb}
 use Rattle.space.specs.declared.config.Config.{Config}
+use Rattle.space.specs.Configs.{hasChoices}
 use Rattle.space.specs.declared.space.Space.{Space}
 use Rattle.space.specs.Spaces.{held}
 use Rattle.text.specs.Digits.{decimal}
@@ -21,7 +21,7 @@ tuplesText = 116 ∷ 117 ∷ 112 ∷ 108 ∷ 101 ∷ 115 ∷ []
 
 -- under policy 3 the line ends with k
 unfoldable pub choicesText : Config → List ℕ
-choicesText config = cond (eqb (config .policy) 3) (spaced (config .k)) []
+choicesText config = cond (hasChoices config) (spaced (config .k)) []
 
 -- board, n, t and the policy
 unfoldable pub configLine : Config → List ℕ

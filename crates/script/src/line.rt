@@ -33,7 +33,7 @@ fn put_choices(out: &mut [u8], at: usize, config: Config) -> usize
     ensures { λ r. ⌜ r ≡ behind at (length (choicesText config)) ⌝ }
     ensures { λ _. ⌜ now (out .exit) ≡ sets (now (out .entry)) at (choicesText config) ⌝ }
 {
-    if config.policy == 3 {
+    if config.has_choices() {
         put_spaced(out, at, config.k)
     } else {
         at

@@ -36,7 +36,7 @@ pub(crate) fn read_config(script: &[u8]) -> ReadConfig
         policy: policy.value,
         k: 0,
     };
-    if config.policy == 3 {
+    if config.has_choices() {
         return read_k(script, fourth, config);
     }
     ReadConfig {

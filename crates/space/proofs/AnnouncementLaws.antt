@@ -10,7 +10,7 @@ use lib.Dec.{ltb, eqb}
 use borrow.Author.Tests.{ltb-true, ltb-false, eqb-true, eqb-false, not-true, eq-eqb, ne-eqb}
 use borrow.Table.Steps.{cases}
 use Rattle.space.specs.declared.announcement.Announced.{Announced}
-use Rattle.space.specs.declared.announcement.Announced.the-variants.{Waits, Silent}
+use Rattle.space.specs.declared.announcement.Announced.the-variants.{Shift, Silent}
 use Rattle.space.specs.Announcements.{isAnnouncement, announcerOf, announcedSerial, announcedCode, announces, announcedOf, Announcing, Oldest}
 use Rattle.space.specs.Laws.{AnnouncementRule, AnnouncedRules}
 use Rattle.space.proofs.ShapeLaws.{four}
@@ -30,7 +30,7 @@ module _ (process n : ℕ) (l : List Tuple) (i : ℕ) (passed : announcedOf (dro
     here : announcedOf (getD l i d ∷ drop (i + 1) (take n l)) process ≡ announcedOf (take n l) process
     here = ap (λ (ts : List Tuple). announcedOf ts process) (sym (drop-take-step n l i d below inside)) ∙ passed
 
-    pub announced-here : announces process (getD l i d) ≡ true → Waits (announcedSerial (getD l i d)) (announcedCode (getD l i d)) ≡ announcedOf (take n l) process
+    pub announced-here : announces process (getD l i d) ≡ true → Shift (announcedSerial (getD l i d)) (announcedCode (getD l i d)) ≡ announcedOf (take n l) process
     unfolding announcedOf
     announced-here e = sym (rw e) ∙ here
 
@@ -94,11 +94,11 @@ announces-rule process tuple = (
 module _ (process : ℕ) where
   -- what the answer says of the tuples
   abbrev Says : List Tuple → Announced → Type 0
-  Says tuples (Waits serial code) = Oldest tuples process serial code
+  Says tuples (Shift serial code) = Oldest tuples process serial code
   Says tuples Silent = Announcing tuples process → ⊥
 
   said-later : (tuple : Tuple) (tuples : List Tuple) → announces process tuple ≡ false → (answer : Announced) → Says tuples answer → Says (tuple ∷ tuples) answer
-  said-later tuple tuples other (Waits serial code) o =
+  said-later tuple tuples other (Shift serial code) o =
       record {
         at = suc (o .at);
         inside = omega (arith, o .inside);
@@ -145,17 +145,17 @@ module _ (process : ℕ) where
       record { tuple = getD tuples (o .at) blankTuple; stands = stands tuples (o .at) (o .inside); shape = o .shape; by = o .by }
 
   silent-none : (tuples : List Tuple) (answer : Announced) → Says tuples answer → (Announcing tuples process → ⊥) → answer ≡ Silent
-  silent-none tuples (Waits serial code) o none = absurd (none (oldest-stands o))
+  silent-none tuples (Shift serial code) o none = absurd (none (oldest-stands o))
   silent-none tuples Silent a none = refl
 
-  waits-oldest : (tuples : List Tuple) (serial code : ℕ) (answer : Announced) → Says tuples answer → Oldest tuples process serial code → answer ≡ Waits serial code
-  waits-oldest tuples serial code (Waits serial′ code′) a o = let same = one-oldest a o in λ i. Waits (same .0 i) (same .1 i)
-  waits-oldest tuples serial code Silent a o = absurd (a (oldest-stands o))
+  shift-oldest : (tuples : List Tuple) (serial code : ℕ) (answer : Announced) → Says tuples answer → Oldest tuples process serial code → answer ≡ Shift serial code
+  shift-oldest tuples serial code (Shift serial′ code′) a o = let same = one-oldest a o in λ i. Shift (same .0 i) (same .1 i)
+  shift-oldest tuples serial code Silent a o = absurd (a (oldest-stands o))
 
 pub announced-rules : AnnouncedRules
 announced-rules tuples process =
     let holds = said process tuples in
     record {
-      waits = λ serial code. (λ e. rw e at holds, waits-oldest process tuples serial code (announcedOf tuples process) holds);
+      shift = λ serial code. (λ e. rw e at holds, shift-oldest process tuples serial code (announcedOf tuples process) holds);
       silent = (λ e. rw e at holds, silent-none process tuples (announcedOf tuples process) holds);
     }

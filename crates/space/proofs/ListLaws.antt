@@ -10,8 +10,7 @@ use borrow.Table.Steps.{cases}
 use Rattle.space.specs.declared.list.Wanted.{Wanted}
 use Rattle.space.specs.declared.list.Wanted.the-variants.{Position, Serial}
 use Rattle.space.specs.Laws.{ListTupleRule, FilledRule, ListedRule}
-use Rattle.space.specs.Lists.{isListTuple, isWanted, lists, isThere, isFilled, isListed}
-use Rattle.space.specs.Shapes.{processOf}
+use Rattle.space.specs.Lists.{listedProcess, isListTuple, isWanted, lists, isThere, isFilled, isListed}
 use Rattle.space.proofs.ShapeLaws.{four}
 use Rattle.tuple.specs.declared.field.Tuple.{Tuple}
 use Rattle.tuple.specs.Fields.{word, count, offset, defined, listing}
@@ -97,7 +96,7 @@ pub listed-rule : ListedRule
 unfolding isListed
 listed-rule tuples process serial = (
   λ h. let s = there-standing (Serial process serial) tuples h in
-      let same = and-eq-true-iff (eqb (processOf (s .tuple)) process) _ .0 (s .sought) in
+      let same = and-eq-true-iff (eqb (listedProcess (s .tuple)) process) _ .0 (s .sought) in
       record { tuple = s .tuple; stands = s .stands; shape = s .shape; by = eqb-true _ _ (same .0); with-serial = eqb-true _ _ (same .1) },
   λ l. standing-there (Serial process serial) tuples (record { tuple = l .tuple; stands = l .stands; shape = l .shape; sought = rw (eq-eqb _ _ (l .by), eq-eqb _ _ (l .with-serial)) refl }),
 )

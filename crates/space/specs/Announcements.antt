@@ -6,7 +6,7 @@ use mathlib.Core.List.{List, [], _∷_, List·Memᴰ}
 use lib.ListN.{length, getD}
 use lib.Dec.{eqb}
 use Rattle.space.specs.declared.announcement.Announced.{Announced}
-use Rattle.space.specs.declared.announcement.Announced.the-variants.{Waits, Silent}
+use Rattle.space.specs.declared.announcement.Announced.the-variants.{Shift, Silent}
 use Rattle.tuple.specs.declared.field.Tuple.{Tuple}
 use Rattle.tuple.specs.Fields.{blankTuple}
 use Rattle.tuple.specs.Forms.{announcementShape}
@@ -37,7 +37,7 @@ announces process tuple = isAnnouncement tuple && eqb (announcerOf tuple) proces
 -- the oldest announcement of a process
 unfoldable pub announcedOf : List Tuple → ℕ → Announced
 announcedOf [] process = Silent
-announcedOf (tuple ∷ tuples) process = cond (announces process tuple) (Waits (announcedSerial tuple) (announcedCode tuple)) (announcedOf tuples process)
+announcedOf (tuple ∷ tuples) process = cond (announces process tuple) (Shift (announcedSerial tuple) (announcedCode tuple)) (announcedOf tuples process)
 
 -- ---- in document 02's words
 

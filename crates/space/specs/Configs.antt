@@ -14,17 +14,25 @@ choiceSound config = leb fewestChoices (config .k) && leb (config .k) mostChoice
 unfoldable pub plainSound : Config → Bool
 plainSound config = leb (config .policy) lastPolicy && eqb (config .k) 0 && leb (3 * config .t + 1) (config .n)
 
+-- policy 3: offsets are chosen among k
+abbrev pub hasChoices : Config → Bool
+hasChoices config = eqb (config .policy) 3
+
 -- n is 1 to 15
 unfoldable pub sound : Config → Bool
-sound config = leb 1 (config .n) && leb (config .n) processes && cond (eqb (config .policy) 3) (choiceSound config) (plainSound config)
+sound config = leb 1 (config .n) && leb (config .n) processes && cond (hasChoices config) (choiceSound config) (plainSound config)
 
 -- policies 2 and 3: decisions rest on proposals
 unfoldable pub hasProposals : Config → Bool
-hasProposals config = eqb (config .policy) 2 || eqb (config .policy) 3
+hasProposals config = eqb (config .policy) 2 || hasChoices config
+
+-- policy 5: a process may announce what is to be listed
+abbrev pub hasAnnouncements : Config → Bool
+hasAnnouncements config = eqb (config .policy) 5
 
 -- policies 4 and 5: a list that all processes share
 unfoldable pub hasList : Config → Bool
-hasList config = eqb (config .policy) 4 || eqb (config .policy) 5
+hasList config = eqb (config .policy) 4 || hasAnnouncements config
 
 -- one of the processes 1 to n
 unfoldable pub known : Config → ℕ → Bool

@@ -10,13 +10,12 @@ use lib.ListN.{getD}
 use Rattle.space.specs.declared.config.Config.{Config}
 use Rattle.space.specs.declared.proposal.Sought.the-variants.{One, Some, Any}
 use Rattle.space.specs.declared.space.Space.{Space}
-use Rattle.space.specs.declared.announcement.Announced.the-variants.{Waits, Silent}
+use Rattle.space.specs.declared.announcement.Announced.the-variants.{Shift, Silent}
 use Rattle.space.specs.Announcements.{isAnnouncement, announcerOf, announcedSerial, announcedCode, announcedOf, Announcing, Oldest}
 use Rattle.space.specs.Configs.{sound, hasProposals, hasList}
-use Rattle.space.specs.Lists.{isListTuple, positionOf, serialOf, shiftCode, isFilled, isListed, Filled, Listed}
+use Rattle.space.specs.Lists.{listedProcess, isListTuple, positionOf, serialOf, shiftCode, isFilled, isListed, Filled, Listed}
 use Rattle.space.specs.Members.{Member, within, every, counted}
 use Rattle.space.specs.Proposals.{offered, decidable, proposed, backers, crowded, Placed, Proposed}
-use Rattle.space.specs.Shapes.{processOf}
 use Rattle.space.specs.Spaces.{wellFormed, Typed, Tidy}
 use Rattle.tuple.specs.declared.field.Tuple.{Tuple}
 use Rattle.tuple.specs.declared.offset.Offset.{Offset}
@@ -118,7 +117,7 @@ pub record ListTuple (tuple : Tuple) (position process serial code : ℕ) : Type
 abbrev pub ListTupleRule : Type 0
 ListTupleRule =
     (tuple : Tuple)
-    → (isListTuple tuple ≡ true) ↔ ListTuple tuple (positionOf tuple) (processOf tuple) (serialOf tuple) (shiftCode tuple)
+    → (isListTuple tuple ≡ true) ↔ ListTuple tuple (positionOf tuple) (listedProcess tuple) (serialOf tuple) (shiftCode tuple)
 
 -- a position is filled exactly when such a tuple stands
 abbrev pub FilledRule : Type 0
@@ -147,7 +146,7 @@ AnnouncementRule =
 
 -- what a process has announced is its oldest announcement, and nothing exactly when none stands
 pub record AnnouncedRule (tuples : List Tuple) (process : ℕ) : Type 0 where
-  pub waits : (serial code : ℕ) → (announcedOf tuples process ≡ Waits serial code) ↔ Oldest tuples process serial code
+  pub shift : (serial code : ℕ) → (announcedOf tuples process ≡ Shift serial code) ↔ Oldest tuples process serial code
   pub silent : (announcedOf tuples process ≡ Silent) ↔ (Announcing tuples process → ⊥)
 
 abbrev pub AnnouncedRules : Type 0

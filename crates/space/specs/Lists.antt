@@ -6,7 +6,6 @@ use mathlib.Core.List.{List, [], _∷_, List·Memᴰ}
 use lib.Dec.{eqb}
 use Rattle.space.specs.declared.list.Wanted.{Wanted}
 use Rattle.space.specs.declared.list.Wanted.the-variants.{Position, Serial}
-use Rattle.space.specs.Shapes.{processOf}
 use Rattle.tuple.specs.declared.field.Tuple.{Tuple}
 use Rattle.tuple.specs.Forms.{listTupleShape}
 use Rattle.tuple.specs.Shapes.{field, hasShape}
@@ -17,9 +16,12 @@ use Rattle.tuple.specs.Shapes.{field, hasShape}
 abbrev pub isListTuple : Tuple → Bool
 isListTuple tuple = hasShape listTupleShape tuple
 
--- its position, its serial, and the code of its shift; its process stands where a proposal's does (`processOf`)
+-- its position, its process, its serial, and the code of its shift
 abbrev pub positionOf : Tuple → ℕ
 positionOf tuple = field tuple 1 .value
+
+abbrev pub listedProcess : Tuple → ℕ
+listedProcess tuple = field tuple 2 .value
 
 abbrev pub serialOf : Tuple → ℕ
 serialOf tuple = field tuple 3 .value
@@ -32,7 +34,7 @@ shiftCode tuple = field tuple 4 .value
 -- one of the list tuples that are looked for: of this position, or of this process and serial
 abbrev pub isWanted : Wanted → Tuple → Bool
 isWanted (Position position) tuple = eqb (positionOf tuple) position
-isWanted (Serial process serial) tuple = eqb (processOf tuple) process && eqb (serialOf tuple) serial
+isWanted (Serial process serial) tuple = eqb (listedProcess tuple) process && eqb (serialOf tuple) serial
 
 unfoldable pub lists : Wanted → Tuple → Bool
 lists wanted tuple = isListTuple tuple && isWanted wanted tuple
@@ -64,5 +66,5 @@ pub record Listed (tuples : List Tuple) (process serial : ℕ) : Type 0 where
   pub tuple : Tuple
   pub stands : List·Memᴰ tuple tuples
   pub shape : isListTuple tuple ≡ true
-  pub by : processOf tuple ≡ process
+  pub by : listedProcess tuple ≡ process
   pub with-serial : serialOf tuple ≡ serial

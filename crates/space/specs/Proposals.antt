@@ -7,6 +7,7 @@ use lib.Dec.{leb, ltb, eqb}
 use Rattle.space.specs.declared.config.Config.{Config}
 use Rattle.space.specs.declared.proposal.Sought.{Sought}
 use Rattle.space.specs.declared.proposal.Sought.the-variants.{One, Some, Any}
+use Rattle.space.specs.Configs.{hasChoices}
 use Rattle.space.specs.Members.{every, counted}
 use Rattle.space.specs.Shapes.{isProposal, roundOf, processOf, proposedCode}
 use Rattle.tuple.specs.declared.field.Tuple.{Tuple}
@@ -21,7 +22,7 @@ isChoice k code = eqb (code % 2) 1 && ltb (code / 2) k
 
 -- every offset but bottom; under policy 3 only a choice
 unfoldable pub offered : Config → ℕ → Bool
-offered config code = not (eqb code bottom) && leb code largestCode && (not (eqb (config .policy) 3) || isChoice (config .k) code)
+offered config code = not (eqb code bottom) && leb code largestCode && (not (hasChoices config) || isChoice (config .k) code)
 
 -- what a process may decide: what may be proposed, and under policy 2 bottom
 unfoldable pub decidable : Config → ℕ → Bool

@@ -35,8 +35,11 @@ placesFrom zero (tuple ∷ tuples) = placeSound tuple false && placesFrom zero t
 placesFrom (suc count) (tuple ∷ tuples) = placeSound tuple true && placesFrom count tuples
 
 -- a sound configuration, and at most 128 tuples
+abbrev pub isBounded : Config → ℕ → Bool
+isBounded config count = sound config && leb count capacity
+
 unfoldable pub bounded : Space → Bool
-bounded space = sound (space .config) && leb (space .count) capacity
+bounded space = isBounded (space .config) (space .count)
 
 -- beside that, each tuple held is an entry within its kinds' ranges, and unused places are zero
 unfoldable pub wellFormed : Space → Bool

@@ -1,6 +1,6 @@
 // Announcements: their shape, and a process's oldest one.
 ghost use mathlib.Core.Path.{_≡_};
-ghost use Rattle.space.specs.declared.announcement.Announced.the-variants.{Waits};
+ghost use Rattle.space.specs.declared.announcement.Announced.the-variants.{Shift};
 ghost use Rattle.space.specs.Announcements.{isAnnouncement, announcedSerial, announcedCode, announces as announces·, announcedOf};
 ghost use Rattle.space.specs.Spaces.{held};
 use crate::space::Space;
@@ -13,8 +13,8 @@ use tuple::least;
 
 // What a process has announced.
 pub enum Announced {
-    // Its serial and the code of its shift.
-    Waits(u64, u64),
+    // The serial and the code of the shift of its oldest announcement, be it listed or not.
+    Shift(u64, u64),
     // Nothing.
     Silent,
 }
@@ -40,7 +40,7 @@ pub fn oldest_announced(space: Space, process: u64) -> Announced
     while i < count {
         let tuple = space.tuples[i];
         if announces(process, tuple) {
-            return waits(tuple);
+            return announced_shift(tuple);
         }
         i += 1;
     }
@@ -52,18 +52,18 @@ fn announces(process: u64, tuple: Tuple) -> bool
     ensures { λ r. ⌜ r ≡ announces· process tuple ⌝ }
 {
     let second = tuple.fields[1];
-    if is_announcement(tuple) {
-        second.value == process
+    if second.value == process {
+        is_announcement(tuple)
     } else {
         false
     }
 }
 
 // The serial and the code of an announcement.
-fn waits(tuple: Tuple) -> Announced
-    ensures { λ r. ⌜ r ≡ Waits (announcedSerial tuple) (announcedCode tuple) ⌝ }
+fn announced_shift(tuple: Tuple) -> Announced
+    ensures { λ r. ⌜ r ≡ Shift (announcedSerial tuple) (announcedCode tuple) ⌝ }
 {
     let third = tuple.fields[2];
     let fourth = tuple.fields[3];
-    Announced::Waits(third.value, fourth.value)
+    Announced::Shift(third.value, fourth.value)
 }

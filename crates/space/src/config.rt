@@ -3,7 +3,7 @@
 ghost use mathlib.Core.Path.{_≡_};
 ghost use Prim.Native.Nat.{_+_, _*_, _≤_};
 ghost use lib.Dec.{leb};
-ghost use Rattle.space.specs.Configs.{sound, choiceSound, plainSound, hasProposals, hasList, known, blankConfig};
+ghost use Rattle.space.specs.Configs.{sound, choiceSound, plainSound, hasProposals, hasChoices, hasList, hasAnnouncements, known, blankConfig};
 use crate::bounds::FEWEST_CHOICES;
 use crate::bounds::LAST_POLICY;
 use crate::bounds::MOST_CHOICES;
@@ -41,7 +41,7 @@ impl Config {
         if (PROCESSES as u64) < n {
             return false;
         }
-        if self.policy == 3 {
+        if self.has_choices() {
             choice_sound(self)
         } else {
             plain_sound(self)
@@ -55,8 +55,15 @@ impl Config {
         if self.policy == 2 {
             true
         } else {
-            self.policy == 3
+            self.has_choices()
         }
+    }
+
+    // Whether offsets are chosen among k: policy 3.
+    pub fn has_choices(self) -> bool
+        ensures { λ r. ⌜ r ≡ hasChoices self ⌝ }
+    {
+        self.policy == 3
     }
 
     // Whether the processes share a list: policies 4 and 5.
@@ -66,8 +73,15 @@ impl Config {
         if self.policy == 4 {
             true
         } else {
-            self.policy == 5
+            self.has_announcements()
         }
+    }
+
+    // Whether a process may announce what is to be listed: policy 5.
+    pub fn has_announcements(self) -> bool
+        ensures { λ r. ⌜ r ≡ hasAnnouncements self ⌝ }
+    {
+        self.policy == 5
     }
 
     // Whether this is one of the processes 1 to n.

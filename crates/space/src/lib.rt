@@ -31,3 +31,4 @@ pub use space::Opened;
 pub use space::Opening;
 pub use space::Space;
 pub use space::fresh;
+pub use space::is_bounded;

@@ -58,8 +58,8 @@ fn is_there(space: Space, wanted: Wanted) -> bool
 fn lists(wanted: Wanted, tuple: Tuple) -> bool
     ensures { λ r. ⌜ r ≡ lists· wanted tuple ⌝ }
 {
-    if is_list_tuple(tuple) {
-        is_wanted(wanted, tuple)
+    if is_wanted(wanted, tuple) {
+        is_list_tuple(tuple)
     } else {
         false
     }

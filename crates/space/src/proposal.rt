@@ -16,7 +16,7 @@ use tuple::BOTTOM;
 use tuple::LARGEST_CODE;
 use tuple::TUPLES;
 use tuple::Tuple;
-use tuple::all_four;
+use tuple::all_three;
 use tuple::least;
 
 // Which proposals are looked for.
@@ -39,7 +39,7 @@ pub fn offered(config: Config, code: u64) -> bool
     if LARGEST_CODE < code {
         return false;
     }
-    if config.policy == 3 {
+    if config.has_choices() {
         is_choice(config.k, code)
     } else {
         true
@@ -84,9 +84,12 @@ fn proposes(config: Config, sought: Sought, round: u64, process: u64, tuple: Tup
     let second = tuple.fields[1];
     let third = tuple.fields[2];
     let fourth = tuple.fields[3];
-    all_four(
+    // Most tuples are of another round.
+    if second.value != round {
+        return false;
+    }
+    all_three(
         is_proposal(tuple),
-        second.value == round,
         third.value == process,
         is_sought(config, sought, fourth.value),
     )
@@ -180,13 +183,8 @@ fn differ(a: u64, b: u64) -> u64
 fn strike_proposer(config: Config, sought: Sought, round: u64, tuple: Tuple, set: u64) -> u64
     ensures { λ r. ⌜ r ≡ cond (proposes· config sought round (processOf tuple) tuple) (strike· (processOf tuple) (config .n) 1 set) set ⌝ }
 {
-    let second = tuple.fields[1];
     let third = tuple.fields[2];
     let process = third.value;
-    // Most tuples are of another round.
-    if second.value != round {
-        return set;
-    }
     if proposes(config, sought, round, process, tuple) {
         strike(process, config.n, set)
     } else {

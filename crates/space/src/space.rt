@@ -2,7 +2,7 @@
 ghost use mathlib.Core.Path.{_≡_};
 ghost use Prim.Native.Nat.{_≤_};
 ghost use mathlib.Core.List.{[]};
-ghost use Rattle.space.specs.Spaces.{spaceOf, placesFrom, wellFormed, freshOf};
+ghost use Rattle.space.specs.Spaces.{spaceOf, placesFrom, isBounded, wellFormed, freshOf};
 ghost use Rattle.tuple.specs.Bounds.{capacity};
 use crate::config::Config;
 use tuple::Refusal;
@@ -60,14 +60,21 @@ impl Space {
     pub fn is_well_formed(self) -> bool
         ensures { λ r. ⌜ r ≡ wellFormed self ⌝ }
     {
-        let config = self.config;
-        if !config.is_sound() {
-            return false;
-        }
-        if TUPLES < self.count {
+        if !is_bounded(self.config, self.count) {
             return false;
         }
         places_sound(self)
+    }
+}
+
+// Whether a space's configuration is sound, and its count no more than its places.
+pub fn is_bounded(config: Config, count: usize) -> bool
+    ensures { λ r. ⌜ r ≡ isBounded config count ⌝ }
+{
+    if config.is_sound() {
+        count <= TUPLES
+    } else {
+        false
     }
 }
 

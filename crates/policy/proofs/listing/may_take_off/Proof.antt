@@ -10,6 +10,9 @@ element-copy-out-second c = search needs
 cast-caller : tie.Need-cast-caller
 cast-caller c = search needs
 
+has-announcements-requires : tie.Need-has-announcements-requires
+has-announcements-requires c κs = search needs
+
 has-shape-requires : tie.Need-has-shape-requires
 has-shape-requires c κs = search needs
 
@@ -18,7 +21,7 @@ all-three-requires c κs = search needs
 
 returns : tie.Need-returns
 unfolding mayTakeOff
-returns c = rw (c .before .before .has-shape .ensures) at (c .all-three .ensures)
+returns c = rw (c .before .before .before .has-announcements .ensures, c .before .before .has-shape .ensures) at (c .all-three .ensures)
 
 pub may-take-off-spec : {M : Type 1} → statement M
-may-take-off-spec = tie.close (tie.spec element-copy-out-second cast-caller has-shape-requires all-three-requires returns)
+may-take-off-spec = tie.close (tie.spec element-copy-out-second cast-caller has-announcements-requires has-shape-requires all-three-requires returns)

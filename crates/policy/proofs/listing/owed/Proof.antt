@@ -1,17 +1,19 @@
 -- `policy::listing::owed` meets its contract: its tests are the definition's.
 use borrow.Author.Needs.{needs}
 use mathlib.Core.Path.{_≡_, refl, sym, ap, _∙_}
-use borrow.Author.Tests.{eq-eqb, ne-eqb}
+use borrow.Author.Tests.{not-true, not-false}
 use Rattle.policy.specs.Listing.{waiting, owed}
-use Rattle.space.specs.declared.announcement.Announced.{Announced}
 use Rattle.space.specs.Announcements.{announcedOf}
 use Rattle.space.specs.Spaces.{held}
 use Rattle.policy.proofs.listing.owed.Statement.{statement}
 use Rattle.policy.proofs.listing.owed.Tie as tie
 
+has-announcements-requires : tie.Need-has-announcements-requires
+has-announcements-requires c κs = search needs
+
 returns : tie.Need-returns
 unfolding owed
-returns c = rw (ne-eqb _ _ (c .if1 .taken))
+returns c = rw (sym (c .before .has-announcements .ensures) ∙ not-true _ (c .if1 .taken))
 
 -- what is owed, by what is announced
 means : (c : tie.After-oldest-announced) → let a = c .before .before .before .before .args in
@@ -21,7 +23,7 @@ means c =
     let a = c .before .before .before .before .args in
     let p = c .before in
     let said : announcedOf (held (a .space)) (p .preferred .result) ≡ c .oldest-announced .result = sym (c .oldest-announced .ensures) in
-    rw (eq-eqb _ _ (p .before .if1 .left), sym (p .preferred .ensures), said) refl
+    rw (sym (p .before .before .has-announcements .ensures) ∙ not-false _ (p .before .if1 .left), sym (p .preferred .ensures), said) refl
 
 preferred-requires : tie.Need-preferred-requires
 preferred-requires c κs = search needs
@@ -59,6 +61,7 @@ pub owed-spec : {M : Type 1} → statement M
 owed-spec =
     tie.close
     (tie.spec
+    has-announcements-requires
     returns
     preferred-requires
     oldest-announced-requires

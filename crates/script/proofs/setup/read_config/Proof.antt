@@ -3,7 +3,6 @@ use borrow.Author.Needs.{needs}
 use mathlib.Core.Path.{_≡_, sym, _∙_}
 use Prim.Native.Nat.{ℕ}
 use mathlib.Core.List.{List}
-use borrow.Author.Tests.{eq-eqb, ne-eqb}
 use Rattle.script.specs.declared.setup.ReadConfig.{ReadConfig}
 use Rattle.script.specs.Scripts.{noConfig, behindPolicy, policyStep, tStep, configOf}
 use Rattle.record.specs.declared.reader.ReadNumber.{ReadNumber}
@@ -106,6 +105,9 @@ returns-3 c =
     ∙ stops (λ (r : ReadNumber). r .next) (after-policy s (n .number .result .value) (t .number2 .result .value)) noConfig (p .number3 .result) _ (p .number3 .ensures) _
     (c .before .enum-told3 .given .1))
 
+has-choices-requires : tie.Need-has-choices-requires
+has-choices-requires c κs = search needs
+
 read-k-requires : tie.Need-read-k-requires
 read-k-requires c κs = search needs
 
@@ -123,10 +125,12 @@ past-policy c =
     (c .before .behind-policy .given .1)
 
 returns-4 : tie.Need-returns-4
-returns-4 c = c .read-k .ensures ∙ sym (past-policy (c .before .before .before) ∙ rw (eq-eqb _ _ (c .before .if1 .taken)))
+returns-4 c =
+    let h = c .before .before in
+    c .read-k .ensures ∙ sym (past-policy (h .before) ∙ rw (sym (h .has-choices .ensures) ∙ c .before .if1 .taken))
 
 returns-5 : tie.Need-returns-5
-returns-5 c = sym (past-policy (c .before .before) ∙ rw (ne-eqb _ _ (c .if1 .left)))
+returns-5 c = sym (past-policy (c .before .before) ∙ rw (sym (c .before .has-choices .ensures) ∙ c .if1 .left))
 
 pub read-config-spec : {M : Type 1} → statement M
 read-config-spec =
@@ -147,6 +151,7 @@ read-config-spec =
     enum-told-3
     no-config-requires-3
     returns-3
+    has-choices-requires
     read-k-requires
     returns-4
     returns-5)

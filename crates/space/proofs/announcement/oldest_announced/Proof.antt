@@ -40,8 +40,8 @@ element-copy-out-tuple c = search needs
 announces-requires : tie.Need-announces-requires Inv-loop μ-loop
 announces-requires c κs = search needs
 
-waits-requires : tie.Need-waits-requires Inv-loop μ-loop
-waits-requires c κs = search needs
+announced-shift-requires : tie.Need-announced-shift-requires Inv-loop μ-loop
+announced-shift-requires c κs = search needs
 
 returns : tie.Need-returns Inv-loop μ-loop
 returns c =
@@ -50,7 +50,7 @@ returns c =
     let t = p .before .before in
     let l = t .before in
     let s = l .before .before in
-    c .waits .ensures
+    c .announced-shift .ensures
     ∙ announced-here (s .args .process) (s .args .t1 .count) (s .args .t1 .tuples) (l .loop .i) (l .loop .inv .1) _ (below t) (inside t) (sym (p .announces .ensures) ∙ q .if1 .taken)
 
 add-i : tie.Need-add-i Inv-loop μ-loop
@@ -87,7 +87,7 @@ oldest-announced-spec =
     mul-tuple
     element-copy-out-tuple
     announces-requires
-    waits-requires
+    announced-shift-requires
     returns
     add-i
     loop-less

@@ -14,20 +14,25 @@ returns-2 : tie.Need-returns-2
 unfolding offered
 returns-2 c = rw (ne-eqb _ _ (c .before .if1 .left), lt-leb _ _ (c .if2 .taken))
 
+has-choices-requires : tie.Need-has-choices-requires
+has-choices-requires c κs = search needs
+
 is-choice-requires : tie.Need-is-choice-requires
 is-choice-requires c κs = search needs
 
 returns-3 : tie.Need-returns-3
 unfolding offered
 returns-3 c =
-    let p = c .before .before .before in
-    c .is-choice .ensures ∙ sym (rw (ne-eqb _ _ (p .before .if1 .left), le-leb _ _ (p .if2 .left), eq-eqb _ 3 (c .before .if3 .taken)))
+    let h = c .before .before in
+    let p = h .before in
+    c .is-choice .ensures ∙ sym (rw (ne-eqb _ _ (p .before .if1 .left), le-leb _ _ (p .if2 .left), sym (h .has-choices .ensures) ∙ c .before .if3 .taken))
 
 returns-4 : tie.Need-returns-4
 unfolding offered
 returns-4 c =
-    let p = c .before .before in
-    rw (ne-eqb _ _ (p .before .if1 .left), le-leb _ _ (p .if2 .left), ne-eqb _ 3 (c .if3 .left))
+    let h = c .before in
+    let p = h .before in
+    rw (ne-eqb _ _ (p .before .if1 .left), le-leb _ _ (p .if2 .left), sym (h .has-choices .ensures) ∙ c .if3 .left)
 
 pub offered-spec : {M : Type 1} → statement M
-offered-spec = tie.close (tie.spec returns returns-2 is-choice-requires returns-3 returns-4)
+offered-spec = tie.close (tie.spec returns returns-2 has-choices-requires is-choice-requires returns-3 returns-4)

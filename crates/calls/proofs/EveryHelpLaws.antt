@@ -13,7 +13,7 @@ use borrow.Table.Steps.{cases}
 use Rattle.calls.specs.declared.turn.Applied.{Applied}
 use Rattle.calls.specs.Changes.{carriedOut}
 use Rattle.calls.specs.Effects.{effect}
-use Rattle.calls.specs.ListLaws.{HelpedRun, EveryHelp, AloneRun, AloneRuns}
+use Rattle.calls.specs.ListWitnesses.{HelpedRun, EveryHelp, AloneRun, AloneRuns}
 use Rattle.calls.specs.Lists.{listOf, listAfter, listFor, listCas, announceOut}
 use Rattle.calls.specs.Turns.{firstRefusal, judged, applied, turnsFrom, lastOf, after, last}
 use Rattle.calls.proofs.CallSteps.{Moves}

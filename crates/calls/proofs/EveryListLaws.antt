@@ -14,7 +14,7 @@ use borrow.Table.Steps.{cases}
 use Rattle.calls.specs.declared.turn.Applied.{Applied}
 use Rattle.calls.specs.Changes.{carriedOut}
 use Rattle.calls.specs.Effects.{effect}
-use Rattle.calls.specs.ListLaws.{Pick, Able, noPick, EveryList}
+use Rattle.calls.specs.ListWitnesses.{Pick, Able, noPick, EveryList}
 use Rattle.calls.specs.Lists.{listOf, listAfter, listCas}
 use Rattle.calls.specs.Lists.Tells.{finds}
 use Rattle.calls.specs.Turns.{Turn, applied, turnsFrom, turns, lastOf, after, last}

@@ -12,8 +12,8 @@ use lib.Seq.{getD-append-seam}
 use lib.Dec.{ltb, eqb}
 use borrow.Author.Tests.{ltb-true, ltb-false, eqb-true, eqb-false}
 use borrow.Table.Steps.{cases}
-use Rattle.calls.specs.ListLaws.{Standing, ListedWithin, HelpedAt, Helped}
-use Rattle.calls.specs.Lists.{listOf, listAfter, announceOut}
+use Rattle.calls.specs.ListLaws.{HelpedAt, Helped}
+use Rattle.calls.specs.Lists.{listOf, listAfter, announceOut, Standing, ListedWithin}
 use Rattle.calls.specs.Turns.{turnsFrom, lastOf, after, last}
 use Rattle.calls.proofs.ListSteps.{listed-mem, mem-listed, next-position, Kind, announcement-other, key, apart-differ, Shared, Lists, Grown, Advance, list-advance}
 use Rattle.calls.proofs.ListingLaws.{Left, left}

@@ -3,6 +3,7 @@ pub mod Counts
 pub mod Effects
 pub mod Laws
 pub mod ListLaws
+pub mod ListWitnesses
 pub mod Lists
 pub mod RunLaws
 pub mod Turns

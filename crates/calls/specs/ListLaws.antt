@@ -7,8 +7,8 @@ use mathlib.Core.List.{List, [], _∷_, _++_, List·Memᴰ}
 use Prim.Native.Nat.{ℕ, _+_, _-_, _≤_, _<_}
 use lib.ListN.{length, take, getD}
 use lib.IntN.{ℤ, pos, negsuc, _+ℤ_}
-use Rattle.calls.specs.Lists.{listAfter, listFor, listCas, announceOut, OwnCas, ListedBy, Read, ReadTo, shiftOf, shiftSum}
-use Rattle.calls.specs.Turns.{Turn, applied, turns, last}
+use Rattle.calls.specs.Lists.{listAfter, listFor, listCas, announceOut, OwnCas, ListedBy, Read, ReadTo, shiftOf, shiftSum, Told, Standing, ListedWithin}
+use Rattle.calls.specs.Turns.{applied, turns, last}
 use Rattle.policy.specs.declared.verdicts.Verdict.the-variants.{Permit, Refuse}
 use Rattle.policy.specs.Listing.{preferred}
 use Rattle.policy.specs.Policies.{verdictOn}
@@ -19,10 +19,10 @@ use Rattle.space.specs.Lists.{listedProcess, isListTuple, positionOf, serialOf,
 use Rattle.space.specs.Spaces.{held}
 use Rattle.tuple.specs.declared.field.Tuple.{Tuple}
 use Rattle.tuple.specs.declared.field.Call.{Call}
-use Rattle.tuple.specs.declared.reply.Outcome.the-variants.{Done, Found, Inserted, Held, Refused}
+use Rattle.tuple.specs.declared.reply.Outcome.the-variants.{Done, Inserted, Held, Refused}
 use Rattle.tuple.specs.declared.offset.Offset.the-variants.{Hundredths}
 use Rattle.tuple.specs.Fields.{blankTuple}
-use Rattle.tuple.specs.Forms.{listTuple, announcement}
+use Rattle.tuple.specs.Forms.{listTuple}
 use Rattle.tuple.specs.Offsets.{codeOf}
 use Rattle.tuple.specs.Refusals.{refusal}
 
@@ -181,22 +181,6 @@ NextAnnounced =
     → (Announcing (held (last config calls)) process → ⊥)
     → applied (last config calls) (announceOut process serial code) .reply .outcome ≡ Done
 
--- an announcement whose out was done behind `before`, and whose process and serial were not listed then, stands in every space up to the end of `calls`
-pub record Standing (config : Config) (before calls : List Call) (process serial code : ℕ) : Type 0 where
-  pub done : applied (last config before) (announceOut process serial code) .reply .outcome ≡ Done
-  pub unlisted : Listed (held (last config before)) process serial → ⊥
-  pub stands : (early late : List Call) → calls ≡ early ++ late
-      → List·Memᴰ (announcement process serial code) (held (last config (before ++ (announceOut process serial code ∷ early))))
-
--- one of the positions behind those that were filled at the out, up to `last-one`, lists that process and serial
-pub record ListedWithin (config : Config) (before end : List Call) (last-one process serial : ℕ) : Type 0 where
-  pub i : ℕ
-  pub late : length (listAfter config before) ≤ i
-  pub soon : i < last-one
-  pub filled : i < length (listAfter config end)
-  pub by : listedProcess (getD (listAfter config end) i blankTuple) ≡ process
-  pub with-serial : serialOf (getD (listAfter config end) i blankTuple) ≡ serial
-
 -- if it stands until a position behind the out that prefers its process is filled, it is listed there or before
 abbrev pub HelpedAt : Type 0
 HelpedAt =
@@ -221,15 +205,7 @@ Helped =
 
 -- ---- reading it
 
--- a process has read a list tuple exactly when a call under its number was answered found or held with it, or inserted with it as its entry
-abbrev pub Told : Config → List Call → ℕ → Tuple → Type 0
-Told config calls process tuple =
-    (turn : Turn)
-    × List·Memᴰ turn (turns config calls)
-    × (turn .call .process ≡ process)
-    × (((turn .reply .outcome ≡ Found) × (turn .reply .tuple ≡ tuple))
-    ⊎ (((turn .reply .outcome ≡ Held) × (turn .reply .tuple ≡ tuple)) ⊎ ((turn .reply .outcome ≡ Inserted) × (turn .call .entry ≡ tuple))))
-
+-- a process has read a list tuple of a position exactly when it was told of it
 abbrev pub ReadWhen : Type 0
 ReadWhen =
     (config : Config) (calls : List Call) (process position : ℕ) (tuple : Tuple)
@@ -272,71 +248,3 @@ pub record ShiftSums : Type 0 where
   -- -40 has the code 80, 40 the code 81 and -25 the code 50: -40 and 40 make 0, and with -25 they make -25
   pub opposite : shiftSum (listTuple 1 1 7 80 ∷ listTuple 2 3 7 81 ∷ []) ≡ pos 0
   pub signed : shiftSum (listTuple 1 1 7 80 ∷ listTuple 2 3 7 81 ∷ listTuple 3 1 8 50 ∷ []) ≡ negsuc 24
-
--- ---- so that none of this is empty
-
--- a process and the code of a shift, picked for a position
-pub record Pick : Type 0 where
-  pub process : ℕ
-  pub code : ℕ
-
--- one that can be made
-pub record Able (config : Config) (pick : Pick) : Type 0 where
-  pub known : (1 ≤ pick .process) × (pick .process ≤ config .n)
-  pub some : pick .code ≡ 0 → ⊥
-  pub small : pick .code ≤ 200_001
-
-abbrev pub noPick : Pick
-noPick = record { process = 0; code = 0 }
-
--- the list is that of the picks, position by position
-pub record Picked (config : Config) (calls : List Call) (picks : List Pick) : Type 0 where
-  pub many : length (listAfter config calls) ≡ length picks
-  pub by : (i : ℕ) → i < length picks → listedProcess (getD (listAfter config calls) i blankTuple) ≡ getD picks i noPick .process
-  pub shifted : (i : ℕ) → i < length picks → shiftCode (getD (listAfter config calls) i blankTuple) ≡ getD picks i noPick .code
-
--- whatever is picked for 1 to m, m at most 112, there is a run in which the list is that and all processes have read all of it
-abbrev pub EveryList : Type 0
-EveryList =
-    (config : Config) (picks : List Pick)
-    → sound config ≡ true
-    → config .policy ≡ 4
-    → length picks ≤ 112
-    → ((pick : Pick) → List·Memᴰ pick picks → Able config pick)
-    → (calls : List Call)
-    × Picked config calls picks
-    × ((process : ℕ) → 1 ≤ process → process ≤ config .n → (tuples : List Tuple) × ReadTo config calls process (length picks) tuples)
-
--- and some announcement is helped: a process announces, another one takes the next position from it, and lists the announcement for it within n positions
-pub record HelpedRun (config : Config) (process : ℕ) : Type 0 where
-  pub before : List Call
-  pub calls : List Call
-  pub serial : ℕ
-  pub code : ℕ
-  pub helper : ℕ
-  pub other : helper ≡ process → ⊥
-  pub standing : Standing config before calls process serial code
-  pub lost : listedProcess (getD (listAfter config (before ++ (announceOut process serial code ∷ calls))) (length (listAfter config before)) blankTuple) ≡ helper
-  pub position : ℕ
-  pub soon : position ≤ length (listAfter config before) + config .n
-  pub helped : applied (last config (before ++ (announceOut process serial code ∷ calls))) (listFor helper position process serial code) .reply .outcome ≡ Inserted
-
--- for every process, where there are two
-abbrev pub EveryHelp : Type 0
-EveryHelp =
-    (config : Config) (process : ℕ)
-    → sound config ≡ true
-    → config .policy ≡ 5
-    → 2 ≤ config .n
-    → 1 ≤ process
-    → process ≤ config .n
-    → HelpedRun config process
-
--- one alone announces, is denied its other serial, and lists what it announced itself
-pub record AloneRun (config : Config) : Type 0 where
-  pub announces : applied (last config []) (announceOut 1 7 80) .reply .outcome ≡ Done
-  pub denied : applied (last config (announceOut 1 7 80 ∷ [])) (listCas 1 1 8 81) .reply .outcome ≡ Refused (refusal 7)
-  pub lists : applied (last config (announceOut 1 7 80 ∷ [])) (listCas 1 1 7 80) .reply .outcome ≡ Inserted
-
-abbrev pub AloneRuns : Type 0
-AloneRuns = (config : Config) → sound config ≡ true → config .policy ≡ 5 → config .n ≡ 1 → AloneRun config

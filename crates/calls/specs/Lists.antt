@@ -1,7 +1,7 @@
 -- Document 02, 2.6 and 2.7: the shared list that a space holds, the calls that go on with it, what a process has read of it, and the sum of its shifts.
 use mathlib.Core.Path.{_≡_}
 use mathlib.Core.Logic.{_⊎_}
-use Prim.Native.Nat.{ℕ, _+_, _<_}
+use Prim.Native.Nat.{ℕ, _+_, _<_, _-_, _≤_}
 use mathlib.Core.Bool.{true, cond}
 use mathlib.Core.List.{List, [], _∷_, _++_, List·Memᴰ}
 use lib.ListN.{length, getD}
@@ -9,13 +9,13 @@ use lib.IntN.{ℤ, pos, _+ℤ_}
 use Rattle.calls.specs.Turns.{Turn, applied, turns, last}
 use Rattle.space.specs.declared.config.Config.{Config}
 use Rattle.space.specs.Announcements.{Oldest}
-use Rattle.space.specs.Lists.{listedProcess, isListTuple, positionOf, serialOf, shiftCode}
+use Rattle.space.specs.Lists.{listedProcess, isListTuple, positionOf, serialOf, shiftCode, Listed}
 use Rattle.space.specs.Spaces.{held}
 use Rattle.tuple.specs.declared.field.Tuple.{Tuple}
 use Rattle.tuple.specs.declared.field.Call.{Call}
 use Rattle.tuple.specs.declared.offset.Offset.{Offset}
 use Rattle.tuple.specs.declared.offset.Offset.the-variants.{Bottom, Hundredths}
-use Rattle.tuple.specs.declared.reply.Outcome.the-variants.{Found, Inserted, Held}
+use Rattle.tuple.specs.declared.reply.Outcome.the-variants.{Found, Inserted, Held, Done}
 use Rattle.tuple.specs.Fields.{out, cas, blankTuple}
 use Rattle.tuple.specs.Forms.{listTuple, announcement, listTemplate}
 use Rattle.tuple.specs.Offsets.{offsetOf}
@@ -98,3 +98,30 @@ shiftOf tuple = hundredths (offsetOf (shiftCode tuple))
 unfoldable pub shiftSum : List Tuple → ℤ
 shiftSum [] = pos 0
 shiftSum (tuple ∷ tuples) = shiftOf tuple +ℤ shiftSum tuples
+
+-- ---- what is told and what stands
+
+-- a call under the number of the process was answered found or held with the tuple, or inserted with it as its entry
+abbrev pub Told : Config → List Call → ℕ → Tuple → Type 0
+Told config calls process tuple =
+    (turn : Turn)
+    × List·Memᴰ turn (turns config calls)
+    × (turn .call .process ≡ process)
+    × (((turn .reply .outcome ≡ Found) × (turn .reply .tuple ≡ tuple))
+    ⊎ (((turn .reply .outcome ≡ Held) × (turn .reply .tuple ≡ tuple)) ⊎ ((turn .reply .outcome ≡ Inserted) × (turn .call .entry ≡ tuple))))
+
+-- an announcement whose out was done behind `before`, and whose process and serial were not listed then, stands in every space up to the end of `calls`
+pub record Standing (config : Config) (before calls : List Call) (process serial code : ℕ) : Type 0 where
+  pub done : applied (last config before) (announceOut process serial code) .reply .outcome ≡ Done
+  pub unlisted : Listed (held (last config before)) process serial → ⊥
+  pub stands : (early late : List Call) → calls ≡ early ++ late
+      → List·Memᴰ (announcement process serial code) (held (last config (before ++ (announceOut process serial code ∷ early))))
+
+-- one of the positions behind those that were filled at the out, up to `last-one`, lists that process and serial
+pub record ListedWithin (config : Config) (before end : List Call) (last-one process serial : ℕ) : Type 0 where
+  pub i : ℕ
+  pub late : length (listAfter config before) ≤ i
+  pub soon : i < last-one
+  pub filled : i < length (listAfter config end)
+  pub by : listedProcess (getD (listAfter config end) i blankTuple) ≡ process
+  pub with-serial : serialOf (getD (listAfter config end) i blankTuple) ≡ serial

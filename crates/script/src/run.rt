@@ -14,9 +14,9 @@ use crate::line::put_config;
 use crate::line::put_held;
 use crate::line::put_unread;
 use crate::setup::read_config;
-use crate::steps::step;
 use calls::Change;
 use calls::carry_out_unchecked;
+use calls::judge_unchecked;
 use record::Cursor;
 use record::Next;
 use space::Config;
@@ -94,7 +94,7 @@ fn put_opened(out: &mut [u8], script: &[u8], start: Cursor, config: Config) -> u
 }
 
 // The lines of the records from a position on, and the last line. The space is well formed all along, so that its places are not tested
-// again at each call.
+// again at each call. Each turn is `step`, written out: the space that is handed to it would be copied once more.
 fn put_records(out: &mut [u8], at: usize, script: &[u8], start: Cursor, fresh: Space) -> usize
     requires { ⌜ Bytes (now script) ⌝ }
     requires { ⌜ wellFormed fresh ≡ true ⌝ }
@@ -106,14 +106,14 @@ fn put_records(out: &mut [u8], at: usize, script: &[u8], start: Cursor, fresh: S
     let mut space = fresh;
     let mut number: u64 = 1;
     while cursor.at < script.len() {
-        let stepped = step(script, cursor, space);
-        let next = stepped.next;
+        let read = cursor.call(script);
+        let next = read.next;
         let Next::At(behind) = next else {
             let end = put_unread(out, place, number, next);
             return put_held(out, end, space);
         };
-        let call = stepped.call;
-        let effect = stepped.effect;
+        let call = read.call;
+        let effect = judge_unchecked(space, call);
         let reply = effect.reply;
         let change = effect.change;
         place = put_line(out, place, number, reply);

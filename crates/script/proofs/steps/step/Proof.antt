@@ -6,7 +6,7 @@ use Rattle.script.specs.Steps.{effectOf, stepAt}
 use Rattle.calls.specs.declared.effect.Effect.{Effect}
 use Rattle.calls.specs.Effects.{refuses}
 use Rattle.record.specs.declared.reader.Next.{Next}
-use Rattle.record.specs.declared.reader.ReadCall.{ReadCall}
+use Rattle.script.proofs.StepLaws.{read-step}
 use Rattle.script.proofs.steps.step.Statement.{statement}
 use Rattle.script.proofs.steps.step.Tie as tie
 
@@ -14,12 +14,7 @@ use Rattle.script.proofs.steps.step.Tie as tie
 finished : (c : tie.After-call) (does : Effect) → let a = c .before .before .args in let read = c .call .result in
     does ≡ effectOf (a .space) (read .call) (read .next)
     → record { next = read .next; call = read .call; effect = does } ≡ stepAt (a .script .now) (a .cursor .at) (a .space)
-unfolding stepAt
-finished c does made =
-    let space = c .before .before .args .space in
-    let read = c .call .result in
-    ap {B = Stepped} (λ (e : Effect). record { next = read .next; call = read .call; effect = e }) made
-    ∙ ap {B = Stepped} (λ (r : ReadCall). record { next = r .next; call = r .call; effect = effectOf space (r .call) (r .next) }) (c .call .ensures)
+finished c does made = read-step _ _ (c .before .before .args .space) (c .call .result) does (c .call .ensures) made
 
 call-requires : tie.Need-call-requires
 call-requires c κs = search needs

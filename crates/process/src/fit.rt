@@ -1,6 +1,7 @@
 // Which replies fit a process's state.
 ghost use mathlib.Core.Path.{_≡_};
 ghost use Rattle.process.specs.Fits.{isAskedProposal, isRoundDecision, fitsOut, fitsRdp, fitsCas, fits as fits·};
+ghost use Rattle.tuple.specs.Faults.{isEntry};
 use crate::process::Phase;
 use crate::process::Process;
 use policy::is_decision;
@@ -9,6 +10,9 @@ use space::decidable;
 use space::is_proposal;
 use space::offered;
 use space::within;
+use tuple::Call;
+use tuple::Fault;
+use tuple::OUT;
 use tuple::Outcome;
 use tuple::Reply;
 use tuple::Tuple;
@@ -71,7 +75,7 @@ fn is_asked_proposal(config: Config, round: u64, asked: u64, tuple: Tuple) -> bo
     let second = tuple.fields[1];
     let third = tuple.fields[2];
     let fourth = tuple.fields[3];
-    if !tuple.is_entry() {
+    if !is_entry(tuple) {
         return false;
     }
     if !is_proposal(tuple) {
@@ -93,7 +97,7 @@ fn is_round_decision(config: Config, round: u64, tuple: Tuple) -> bool
     let second = tuple.fields[1];
     let third = tuple.fields[2];
     let fourth = tuple.fields[3];
-    if !tuple.is_entry() {
+    if !is_entry(tuple) {
         return false;
     }
     if !is_decision(tuple) {
@@ -106,4 +110,22 @@ fn is_round_decision(config: Config, round: u64, tuple: Tuple) -> bool
         return false;
     }
     within(config.n, fourth.value)
+}
+
+// Whether a well-formed space can hold a tuple: an out of it is without fault. The tuple's own test is left to the loop over a space's places, its one
+// caller, so that the compiler puts it there.
+fn is_entry(tuple: Tuple) -> bool
+    ensures { λ r. ⌜ r ≡ isEntry tuple ⌝ }
+{
+    let call = Call {
+        process: 0,
+        code: OUT,
+        template: Tuple::blank(),
+        entry: tuple,
+    };
+    let fault = call.fault();
+    match fault {
+        Fault::Absent => true,
+        Fault::Present(_) => false,
+    }
 }

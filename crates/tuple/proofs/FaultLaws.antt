@@ -1,5 +1,5 @@
 -- The laws of faults that the loops and the returns of `fault` cite, over plain values.
-use mathlib.Core.Path.{_≡_, refl, sym, ap}
+use mathlib.Core.Path.{_≡_, refl}
 use Prim.Native.Nat.{ℕ, _+_, _-_, _≤_, _<_}
 use mathlib.Core.Bool.{Bool, true, false, _&&_}
 use mathlib.Core.List.{List, [], _∷_}
@@ -14,8 +14,8 @@ use Rattle.tuple.specs.declared.refusal.Refusal.{Refusal}
 use Rattle.tuple.specs.declared.refusal.Refusal.the-variants.{Beyond, Misshapen}
 use Rattle.tuple.specs.Fields.{out, cas, blankField, largestOf}
 use Rattle.tuple.specs.Bounds.{places}
-use Rattle.tuple.specs.Faults.{unless, first, knownHead, fieldFault, fieldsFault, tupleFault, partFault, usesTemplate, usesEntry, usedFault, isBlank, placeBlank, restFrom, restBlank, callFault}
-use Rattle.tuple.proofs.Lists.{drop-step, places-more, places-stop}
+use Rattle.tuple.specs.Faults.{unless, first, knownHead, fieldFault, fieldsFault, tupleFault, partFault, usesTemplate, usesEntry, usedFault, placeBlank, restFrom, restBlank, callFault}
+use Rattle.tuple.proofs.Lists.{places-more, places-stop}
 
 -- of a defined field with a known head, only the value is left to test
 pub defined-fault : (entry : Bool) (field : Field) → knownHead field ≡ true → field .state ≡ 0
@@ -64,19 +64,6 @@ module _ (count : ℕ) (fields : List Field) (i : ℕ) (h : i < length fields) w
 pub rest-end : (count : ℕ) → restFrom count [] ≡ true
 unfolding restFrom
 rest-end count = refl
-
--- ---- the places of a tuple that are not used
-
-module _ (fields : List Field) (i : ℕ) (h : i < length fields) where
-  blank-step : restFrom 0 (drop i fields) ≡ isBlank (getD fields i blankField) && restFrom 0 (drop (i + 1) fields)
-  unfolding restFrom placeBlank
-  blank-step = ap (restFrom 0) (drop-step fields i blankField h)
-
-  pub blank-more : isBlank (getD fields i blankField) ≡ true → restFrom 0 (drop (i + 1) fields) ≡ restFrom 0 (drop i fields)
-  blank-more e = sym (rw e at blank-step)
-
-  pub blank-stop : isBlank (getD fields i blankField) ≡ false → false ≡ restFrom 0 (drop i fields)
-  blank-stop e = sym (rw e at blank-step)
 
 -- ---- the call
 

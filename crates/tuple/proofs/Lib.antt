@@ -8,5 +8,6 @@ pub mod MatchRules
 pub mod MatchingLaws
 pub mod NoFault
 pub mod OffsetLaws
+pub mod PlaceLaws
 pub mod RefusalLaws
 pub mod ShapeLaws

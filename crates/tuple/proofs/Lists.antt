@@ -29,7 +29,7 @@ module _ {A : Type 0} (test : A → Bool → Bool) (from : ℕ → List A → Bo
     (used : (n : ℕ) (a : A) (l : List A) → from (suc n) (a ∷ l) ≡ test a true && from n l)
     (count : ℕ) (l : List A) (i : ℕ) (d : A) (inside : i < length l)
   where
-    places-step : from (count - i) (drop i l) ≡ test (getD l i d) (ltb i count) && from (count - (i + 1)) (drop (i + 1) l)
+    pub places-step : from (count - i) (drop i l) ≡ test (getD l i d) (ltb i count) && from (count - (i + 1)) (drop (i + 1) l)
     places-step =
         cases (ltb i count)
         (λ e. let more : count - i ≡ suc (count - (i + 1)) = omega (arith, ltb-true i count e) in

@@ -1,14 +1,13 @@
 -- What a field, a tuple and a call without fault are: each test that their faults are made of passed (`FaultLaws` says what that means, in numbers). From the
 -- definitions of faults alone.
-use mathlib.Core.Path.{_≡_, refl, sym, _∙_}
+use mathlib.Core.Path.{_≡_, refl}
 use Prim.Native.Nat.{ℕ, zero, suc, _≤_, _<_}
 use native.Mathlib.Omega.{arith}
 use mathlib.Core.Bool.{Bool, true, false, false≢true, not, _&&_, _||_, or-false, and-eq-true-iff}
 use mathlib.Core.List.{List, [], _∷_}
-use lib.ListN.{take, drop, getD}
+use lib.ListN.{take, getD}
 use lib.Dec.{leb, eqb}
 use borrow.Author.Tests.{leb-true, eqb-true, not-true}
-use borrow.Table.Steps.{cases}
 use Rattle.tuple.specs.declared.fault.Fault.{Fault}
 use Rattle.tuple.specs.declared.fault.Fault.the-variants.{Absent, Present}
 use Rattle.tuple.specs.declared.field.Field.{Field}
@@ -16,10 +15,10 @@ use Rattle.tuple.specs.declared.field.Tuple.{Tuple}
 use Rattle.tuple.specs.declared.field.Call.{Call}
 use Rattle.tuple.specs.declared.refusal.Refusal.{Refusal}
 use Rattle.tuple.specs.declared.refusal.Refusal.the-variants.{Beyond, Unknown, Misshapen}
-use Rattle.tuple.specs.Fields.{word, processSet, defined, formal, out, cas, largestOf, blankField}
+use Rattle.tuple.specs.Fields.{word, processSet, defined, formal, out, cas, largestOf, blankField, blankTuple}
 use Rattle.tuple.specs.Bounds.{places}
 use Rattle.tuple.specs.Shapes.{field, is}
-use Rattle.tuple.specs.Faults.{unless, first, knownHead, isDefined, fieldFault, fieldsFault, tupleFault, partFault, usesTemplate, usesEntry, usedFault, placeBlank, restFrom, restBlank, callFault, isAbsent, isEntry}
+use Rattle.tuple.specs.Faults.{unless, first, knownHead, isDefined, fieldFault, fieldsFault, tupleFault, partFault, usesTemplate, usesEntry, usedFault, isBlank, placeBlank, restFrom, restBlank, callFault, isAbsent, isEntry}
 
 -- ---- tests
 
@@ -104,20 +103,6 @@ entry-small kind tuple i entry below h =
     let parts = and-eq-true-iff (eqb (field tuple i .kind) kind) (isDefined (field tuple i)) .0 h in
     rw (eqb-true (field tuple i .kind) kind (parts .0)) at (small-field (tuple .count) (tuple .fields) i (sound .fields) below (parts .1))
 
--- its used places are all defined: those behind the count decide whether its unused parts are zero
-entry-rest : (count : ℕ) (fields : List Field) → fieldsFault true (take count fields) ≡ Absent → restFrom 0 (drop count fields) ≡ restFrom count fields
-unfolding restFrom placeBlank
-entry-rest zero fields h = refl
-entry-rest (suc count) [] h = refl
-entry-rest (suc count) (field ∷ fields) h =
-    let parts = fields-sound true field (take count fields) h in
-    let given : isDefined field ≡ true = cases (isDefined field) (λ e. e) (λ e. absurd (false≢true (sym (parts .0 .shaped e)))) in
-    entry-rest count fields (parts .1) ∙ sym (rw given refl)
-
-pub entry-blank : (tuple : Tuple) → tupleFault true tuple ≡ Absent → restFrom 0 (drop (tuple .count) (tuple .fields)) ≡ isEntry tuple
-unfolding isEntry restBlank
-entry-blank tuple h = entry-rest (tuple .count) (tuple .fields) (tuple-sound true tuple h .fields) ∙ sym (rw h refl)
-
 -- ---- the call
 
 -- a part of a call, used or not
@@ -148,3 +133,15 @@ call-sound call h =
       template = record { fault = faults .0; rest = rests .0 };
       entry = record { fault = faults .1; rest = rests .1 };
     }
+
+-- ---- an out
+
+either : (fault : Fault) (t : Bool) → isAbsent (first fault (unless t Misshapen Absent)) ≡ isAbsent fault && t
+either Absent true = refl
+either Absent false = refl
+either (Present refusal) t = refl
+
+-- an out of a tuple is without fault exactly if the tuple is an entry that a space can hold
+pub out-entry : (process : ℕ) (tuple : Tuple) → isAbsent (callFault (record { process = process; code = out; template = blankTuple; entry = tuple })) ≡ isEntry tuple
+unfolding callFault usedFault usesTemplate usesEntry partFault restBlank restFrom placeBlank isBlank isEntry
+out-entry process tuple = either (tupleFault true tuple) (restBlank tuple true)

@@ -1,8 +1,10 @@
 // What is wrong with a call that is handed in: none, or the first of the refusals 3 to 5 in record order, unused parts last.
 ghost use mathlib.Core.Path.{_≡_};
-ghost use mathlib.Core.Bool.{false};
-ghost use lib.ListN.{drop};
-ghost use Rattle.tuple.specs.Faults.{isEntry, fieldFault, tupleFault, partFault, usedFault, callFault, placeBlank, isBlank, restFrom, restBlank, usesTemplate, usesEntry};
+ghost use mathlib.Core.Bool.{true, false, cond, _&&_};
+ghost use Prim.Native.Nat.{_+_, _*_};
+ghost use lib.Dec.{leb, eqb};
+ghost use Rattle.tuple.specs.Bounds.{places};
+ghost use Rattle.tuple.specs.Faults.{isEntry, isAbsent, fieldFault, tupleFault, partFault, usedFault, callFault, placeBlank, isBlank, restFrom, restBlank, usesTemplate, usesEntry};
 use crate::bounds::FIELDS;
 use crate::field::CAS;
 use crate::field::Call;
@@ -44,25 +46,39 @@ impl Call {
 }
 
 impl Tuple {
-    // Whether a tuple is an entry without fault, its unused parts zero.
+    // Whether a tuple is an entry without fault, its unused parts zero: place by place and without a loop, since a space asks it of each of its tuples.
     pub fn is_entry(self) -> bool
         ensures { λ r. ⌜ r ≡ isEntry self ⌝ }
     {
         let count = self.count;
-        if let Fault::Present(_) = tuple_fault(self, true) {
-            return false;
-        }
-        blank_from(self, count)
+        let first = self.fields[0];
+        let second = self.fields[1];
+        let third = self.fields[2];
+        let fourth = self.fields[3];
+        let fifth = self.fields[4];
+        let sixth = self.fields[5];
+        let one = and_place(is_count(count), first, 0 < count);
+        let two = and_place(one, second, 1 < count);
+        let three = and_place(two, third, 2 < count);
+        let four = and_place(three, fourth, 3 < count);
+        let five = and_place(four, fifth, 4 < count);
+        and_place(five, sixth, 5 < count)
     }
 
     // Whether all of a tuple is zero.
     pub fn is_unused(self) -> bool
         ensures { λ r. ⌜ r ≡ restBlank self false ⌝ }
     {
-        if self.count != 0 {
-            return false;
-        }
-        blank_from(self, 0)
+        let count = self.count as u64;
+        let first = self.fields[0];
+        let second = self.fields[1];
+        let third = self.fields[2];
+        let fourth = self.fields[3];
+        let fifth = self.fields[4];
+        let sixth = self.fields[5];
+        let front = joined(first) | joined(second) | joined(third);
+        let back = joined(fourth) | joined(fifth) | joined(sixth);
+        count | front | back == 0
     }
 }
 
@@ -185,21 +201,6 @@ fn places_blank(tuple: Tuple) -> bool
     true
 }
 
-// Whether all is zero in a tuple's places from one on.
-fn blank_from(tuple: Tuple, start: usize) -> bool
-    ensures { λ r. ⌜ r ≡ restFrom 0 (drop start (tuple .fields)) ⌝ }
-{
-    let mut i = start;
-    while i < FIELDS {
-        let field = tuple.fields[i];
-        if !is_blank(field) {
-            return false;
-        }
-        i += 1;
-    }
-    true
-}
-
 // Whether the unused parts of a place are zero: all of it, if it is not used.
 fn place_blank(field: Field, used: bool) -> bool
     ensures { λ r. ⌜ r ≡ placeBlank field used ⌝ }
@@ -218,11 +219,58 @@ fn place_blank(field: Field, used: bool) -> bool
 fn is_blank(field: Field) -> bool
     ensures { λ r. ⌜ r ≡ isBlank field ⌝ }
 {
-    if field.kind != 0 {
+    joined(field) == 0
+}
+
+// ---- the places of an entry
+
+fn is_count(count: usize) -> bool
+    ensures { λ r. ⌜ r ≡ (leb 1 count && leb count places) ⌝ }
+{
+    if 1 <= count { count <= FIELDS } else { false }
+}
+
+// Whether the places before passed, and this one too: a field of an entry if it is used, and else nothing.
+fn and_place(passed: bool, field: Field, used: bool) -> bool
+    ensures { λ r. ⌜ r ≡ (passed && cond used (isAbsent (fieldFault true field)) (isBlank field)) ⌝ }
+{
+    if passed {
+        if used {
+            is_given(field)
+        } else {
+            is_blank(field)
+        }
+    } else {
+        false
+    }
+}
+
+// Whether a field of an entry is without fault: defined, of a known kind and within it.
+fn is_given(field: Field) -> bool
+    ensures { λ r. ⌜ r ≡ isAbsent (fieldFault true field) ⌝ }
+{
+    let number = head(field);
+    if number < WORD as u64 {
         return false;
     }
-    if field.state != 0 {
+    if (PROCESS_SET as u64) < number {
         return false;
     }
-    field.value == 0
+    field.value <= largest(field.kind)
+}
+
+// ---- the numbers of a field as one
+
+// The kind and the state: as they stand in memory, so that they are loaded at once.
+fn head(field: Field) -> u64
+    ensures { λ r. ⌜ r ≡ field .kind + field .state * 4_294_967_296 ⌝ }
+{
+    field.kind as u64 + field.state as u64 * 4_294_967_296
+}
+
+// All three: 0 if each is.
+fn joined(field: Field) -> u64
+    ensures { λ r. ⌜ eqb r 0 ≡ isBlank field ⌝ }
+{
+    head(field) | field.value
 }

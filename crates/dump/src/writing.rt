@@ -2,9 +2,10 @@
 ghost use mathlib.Core.Path.{_≡_};
 ghost use mathlib.Core.Bool.{true, cond};
 ghost use Prim.Native.Nat.{_+_, _≤_};
+ghost use lib.Dec.{leb};
 ghost use lib.ListN.{length, replicate};
 ghost use lib.Seq.{sets};
-ghost use Rattle.dump.specs.Dumps.{dumpCalls, dumpMost, writtenOf, leftOf};
+ghost use Rattle.dump.specs.Dumps.{dumpCalls, dumpBytes, dumpMost, writtenOf, leftOf};
 ghost use Rattle.dump.specs.Private.{Dumpable};
 ghost use Rattle.record.specs.Writing.{callBytes};
 ghost use Rattle.record.specs.declared.writer.Recorded.the-variants.{Unwritten};
@@ -59,15 +60,12 @@ fn write_script(space: Space, buffer: &mut [u8]) -> Recorded
     if !is_reached(space) {
         return Recorded::Unwritten(Refusal::Unreached);
     }
-    let config = space.config;
-    let start = set_up_width(config);
-    let n = start + records_width(space);
-    if buffer.len() < n {
+    if !has_room(space, buffer.len()) {
         return Recorded::Unwritten(Refusal::NoRoom);
     }
+    let config = space.config;
     put_set_up(buffer, config);
-    put_records(buffer, start, space);
-    Recorded::Length(n)
+    Recorded::Length(put_records(buffer, set_up_width(config), space))
 }
 
 // A buffer that has room for the script of every space.
@@ -78,6 +76,18 @@ pub fn blank() -> [u8; DUMP_BYTES]
 }
 
 // ---- how many bytes
+
+// Whether a buffer of this length has room for the script, which is measured only where the buffer is too short for some.
+fn has_room(space: Space, room: usize) -> bool
+    requires { ⌜ Dumpable space ⌝ }
+    ensures { λ r. ⌜ r ≡ leb (length (dumpBytes space)) room ⌝ }
+{
+    if DUMP_BYTES <= room {
+        return true;
+    }
+    let config = space.config;
+    set_up_width(config) + records_width(space) <= room
+}
 
 // Each number of a sound configuration has one.
 fn set_up_width(config: Config) -> usize
@@ -130,9 +140,10 @@ fn put_set_up(buffer: &mut [u8], config: Config)
     }
 }
 
-fn put_records(buffer: &mut [u8], at: usize, space: Space)
+fn put_records(buffer: &mut [u8], at: usize, space: Space) -> usize
     requires { ⌜ Dumpable space ⌝ }
     requires { ⌜ at + length (recordsBytes (dumpCalls space)) ≤ length (now buffer) ⌝ }
+    ensures { λ r. ⌜ r ≡ at + length (recordsBytes (dumpCalls space)) ⌝ }
     ensures { λ _. ⌜ now (buffer .exit) ≡ sets (now (buffer .entry)) at (recordsBytes (dumpCalls space)) ⌝ }
 {
     let config = space.config;
@@ -144,6 +155,7 @@ fn put_records(buffer: &mut [u8], at: usize, space: Space)
         place = put_record(buffer, place, call_of(config, tuple));
         i += 1;
     }
+    place
 }
 
 fn put_record(buffer: &mut [u8], at: usize, call: Call) -> usize

@@ -104,7 +104,8 @@ same-length c = c .before .loop .inv .3
 returns : tie.Need-returns Inv-loop μ-loop
 returns c =
     let l = c .before in
-    sym (ap (sets (l .loop .buffer) (l .loop .place)) (none-left (l .before .before .before .args .t3) (l .loop .i) (c .loop-test .left))) ∙ l .loop .inv .1
+    let none = none-left (l .before .before .before .args .t3) (l .loop .i) (c .loop-test .left) in
+    (omega (arith, ap length none, l .loop .inv .2), sym (ap (sets (l .loop .buffer) (l .loop .place)) none) ∙ l .loop .inv .1)
 
 pub put-records-spec : {M : Type 1} → statement M
 put-records-spec =

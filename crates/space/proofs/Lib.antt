@@ -12,3 +12,4 @@ pub mod SpaceLaws
 pub mod SpaceRules
 mod Strikes
 pub mod TallyLaws
+pub mod WordLaws

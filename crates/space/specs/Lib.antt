@@ -7,3 +7,4 @@ pub mod Members
 pub mod Proposals
 pub mod Shapes
 pub mod Spaces
+pub mod WordLaws

@@ -1,19 +1,21 @@
 -- The laws of lists of calls from a fresh space, as claims over the definitions.
 use mathlib.Core.Path.{_≡_}
-use mathlib.Core.Bool.{true}
+use mathlib.Core.Bool.{true, false}
 use mathlib.Core.List.{List, [], _∷_, _++_, List·Memᴰ}
 use mathlib.Core.Logic.{_↔_, _⊎_}
 use Prim.Native.Nat.{ℕ, _+_, _≤_, _<_}
 use lib.ListN.{length, getD}
 use Rattle.calls.specs.Counts.{addition, removal, additions, removals}
-use Rattle.calls.specs.Turns.{Turn, applied, turns, uncheckedFrom, last}
+use Rattle.calls.specs.Effects.{refuses}
+use Rattle.calls.specs.Turns.{Turn, judged, carriedBy, applied, turns, uncheckedFrom, last}
 use Rattle.policy.specs.declared.verdicts.Verdict.the-variants.{Permit}
 use Rattle.policy.specs.Policies.{verdictOn}
 use Rattle.policy.specs.Shapes.{isWeakEntry, isDecision, decidedCode}
 use Rattle.space.specs.declared.config.Config.{Config}
+use Rattle.space.specs.declared.space.Space.{Space}
 use Rattle.space.specs.Configs.{sound, hasProposals}
 use Rattle.space.specs.Shapes.{roundOf, isProposal, processOf}
-use Rattle.space.specs.Spaces.{held, freshOf}
+use Rattle.space.specs.Spaces.{held, spaceOf, freshOf, Entries}
 use Rattle.tuple.specs.declared.field.Tuple.{Tuple}
 use Rattle.tuple.specs.declared.field.Call.{Call}
 use Rattle.tuple.specs.declared.reply.Outcome.{Outcome}
@@ -24,6 +26,17 @@ use Rattle.tuple.specs.Refusals.{refusal}
 -- without the test of each place, calls from a fresh space make the same turns
 abbrev pub Unchecked : Type 0
 Unchecked = (config : Config) (calls : List Call) → uncheckedFrom (freshOf config .space) calls ≡ turns config calls
+
+-- what is judged without that test, on any space. Out of bounds it is 1. Within them, with 128 places and entries at those below the count, a call does what
+-- `applied` does on the space of these tuples, whatever stands behind them
+pub record JudgedRule (space : Space) (call : Call) : Type 0 where
+  pub unsound : sound (space .config) ≡ false → judged space call ≡ refuses (refusal 1)
+  pub above : 128 < space .count → judged space call ≡ refuses (refusal 1)
+  pub within : sound (space .config) ≡ true → space .count ≤ 128 → length (space .tuples) ≡ 128 → Entries (held space)
+      → carriedBy (spaceOf (space .config) (held space)) call (judged space call) ≡ applied (spaceOf (space .config) (held space)) call
+
+abbrev pub JudgedRules : Type 0
+JudgedRules = (space : Space) (call : Call) → JudgedRule space call
 
 -- under every policy: tuples held = done outs + inserted cas calls - inp calls that found
 abbrev pub SumRule : Type 0

@@ -16,8 +16,8 @@ pub enum Change {
     Remove(usize),
 }
 
-// The space after a change. Neither the space nor the entry is tested: an entry that has no room, a place that holds no tuple, and a count
-// above 128 change nothing.
+// The space after a change. Neither the space nor the entry is tested (docs/DECISIONS.md, "Functions that leave a test out"): an entry that has no room,
+// a place that holds no tuple, and a count above 128 change nothing.
 pub fn carry_out_unchecked(space: Space, entry: Tuple, change: Change) -> Space
     ensures { λ r. ⌜ r ≡ carriedOut space entry change ⌝ }
 {

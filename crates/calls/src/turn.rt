@@ -41,8 +41,8 @@ pub fn apply(space: Space, call: Call) -> Applied
     Applied { reply, space: next }
 }
 
-// What a call on a space is answered, and what becomes of the tuples. Of the space the configuration and the count are tested, and not its places: this
-// is for callers who know that each tuple held is an entry. Nothing behind the count is looked at.
+// What a call on a space is answered, and what becomes of the tuples. Of the space the configuration and the count are tested, and not its places: who may
+// hand in what, and what is promised of it, is in docs/DECISIONS.md, "Functions that leave a test out".
 pub fn judge_unchecked(space: Space, call: Call) -> Effect
     ensures { λ r. ⌜ r ≡ judged space call ⌝ }
 {

@@ -8,7 +8,8 @@ use calls::judge_unchecked;
 use space::Space;
 use tuple::Outcome;
 
-// Whether each tuple's call, on the tuples before it, is answered done or inserted. The places behind the count are not looked at.
+// Whether each tuple's call, on the tuples before it, is answered done or inserted. What stands behind those is not looked at (docs/DECISIONS.md,
+// "Functions that leave a test out").
 pub(crate) fn is_reached(space: Space) -> bool
     requires { ⌜ wellFormed space ≡ true ⌝ }
     ensures { λ r. ⌜ r ≡ isReached space ⌝ }

@@ -17,7 +17,7 @@ pub struct Stepped {
     pub effect: Effect,
 }
 
-// The record at a position, on a space whose tuples are entries, as its caller knows: its places are not tested.
+// The record at a position, on a space whose places are not tested: docs/DECISIONS.md, "Functions that leave a test out".
 pub fn step(script: &[u8], cursor: Cursor, space: Space) -> Stepped
     ensures { λ r. ⌜ r ≡ stepAt (now (script .entry)) (cursor .at) space ⌝ }
 {

@@ -31,6 +31,7 @@ use Rattle.space.specs.Proposals.{offered, decidable}
 use Rattle.space.proofs.CodeLaws.{zero-offered}
 use Rattle.tuple.specs.declared.offset.Offset.the-variants.{Hundredths}
 use Rattle.tuple.specs.declared.reply.Outcome.the-variants.{Done, None, Found, Held}
+use Rattle.tuple.specs.declared.reply.Reply.{Reply}
 use Rattle.tuple.specs.Faults.{isBlank, placeBlank, restFrom, restBlank}
 use Rattle.tuple.specs.Fields.{blankTuple}
 use Rattle.tuple.specs.Forms.{proposal, decisionEntry}

@@ -1,11 +1,11 @@
 -- Every list that can be picked is the list of some run, and there all processes have read all of it: each entry is inserted in its turn, and then each
 -- process reads position by position.
 use mathlib.Core.Path.{_≡_, refl, sym, ap, _∙_, subst}
-use mathlib.Core.Logic.{inl, ⊎-elim}
+use mathlib.Core.Logic.{inl, inr, ⊎-elim}
 use Prim.Native.Nat.{ℕ, zero, suc, _+_, _≤_, _<_}
 use native.Mathlib.Omega.{arith}
-use mathlib.Core.Bool.{true}
-use mathlib.Core.List.{List, [], _∷_, _++_, append-nil, List·Memᴰ, List·Memᴰ·head, List·Memᴰ·tail, List·Memᴰ·not-nil, List·Memᴰ·cases-cons, List·Memᴰ·append-cases, Memᴰ·append-left, Memᴰ·append-right}
+use mathlib.Core.Bool.{true, false≢true}
+use mathlib.Core.List.{List, [], _∷_, _++_, append-nil, List·Memᴰ, List·Memᴰ·head, List·Memᴰ·tail, List·Memᴰ·not-nil, List·Memᴰ·cases-cons, List·Memᴰ·append-cases, List·Memᴰ·eq-of-singleton, Memᴰ·append-left, Memᴰ·append-right}
 use lib.ListN.{length, getD, length-append}
 use lib.Seq.{append-snoc}
 use lib.Dec.{eqb}
@@ -17,30 +17,33 @@ use Rattle.calls.specs.Effects.{effect}
 use Rattle.calls.specs.ListWitnesses.{Pick, Able, noPick, EveryList}
 use Rattle.calls.specs.Lists.{listOf, listAfter, listCas}
 use Rattle.calls.specs.Lists.Tells.{finds}
+use Rattle.calls.specs.ReadingLaws.{readAt}
 use Rattle.calls.specs.Turns.{Turn, applied, turnsFrom, turns, lastOf, after, last}
 use Rattle.calls.proofs.CallLaws.{permitted-applied}
-use Rattle.calls.proofs.ListSteps.{Orderly, each-more, Shared, shared-none, list-keeps}
-use Rattle.calls.proofs.ListingLaws.{shared-whole, list-found, next-space}
+use Rattle.calls.proofs.ListSteps.{Orderly, each-more, announcement-other, Shared, shared-none, list-keeps}
+use Rattle.calls.proofs.ListingLaws.{all-listed, list-found, list-call, next-space}
+use Rattle.calls.proofs.PositionLaws.{read-faultless}
 use Rattle.calls.proofs.RunSteps.{next, none-lawful, fresh-space}
 use Rattle.calls.proofs.SumLaws.{after-append}
 use Rattle.calls.proofs.Walks.{turns-behind}
-use Rattle.policy.specs.Listing.{positions}
-use Rattle.policy.proofs.ListingLaws.{list-rule, nothing-owed}
+use Rattle.policy.specs.Laws.{ListCall}
+use Rattle.policy.specs.Listing.{positions, isDue}
+use Rattle.policy.proofs.AnnouncingLaws.{due-rule}
+use Rattle.policy.proofs.ListingLaws.{list-rdp-rule, nothing-owed}
 use Rattle.space.specs.declared.config.Config.{Config}
 use Rattle.space.specs.declared.space.Space.{Space}
-use Rattle.space.specs.Configs.{sound}
-use Rattle.space.specs.Lists.{listedProcess, serialOf, shiftCode}
+use Rattle.space.specs.Announcements.{Announcing}
+use Rattle.space.specs.Configs.{sound, hasList}
+use Rattle.space.specs.Lists.{listedProcess, isListTuple, serialOf, shiftCode, Listed}
 use Rattle.space.specs.Spaces.{held, spaceOf}
 use Rattle.space.proofs.ConfigLaws.{sound-range, has-list-rule}
+use Rattle.space.proofs.ListLaws.{list-tuple}
 use Rattle.space.proofs.SpaceRules.{Lawful, held-of, formed-of, place}
-use Rattle.tuple.specs.declared.fault.Fault.the-variants.{Absent}
 use Rattle.tuple.specs.declared.field.Tuple.{Tuple}
 use Rattle.tuple.specs.declared.field.Call.{Call}
 use Rattle.tuple.specs.declared.reply.Outcome.the-variants.{Found}
-use Rattle.tuple.specs.Bounds.{largestCount}
-use Rattle.tuple.specs.Faults.{callFault, usedFault, usesTemplate, usesEntry, partFault, tupleFault, fieldsFault, fieldFault, knownHead, restBlank, restFrom, placeBlank, isBlank}
-use Rattle.tuple.specs.Fields.{rdp, largestOf, blankTuple}
-use Rattle.tuple.specs.Forms.{listTuple, listTemplate}
+use Rattle.tuple.specs.Fields.{blankTuple}
+use Rattle.tuple.specs.Forms.{listTuple}
 
 -- ---- filling the list: at each position what is picked, under the position as the serial
 
@@ -64,13 +67,28 @@ entries-picked at [] i h = absurd (omega arith)
 entries-picked at (pick ∷ picks) zero h = (refl, refl)
 entries-picked at (pick ∷ picks) (suc i) h = entries-picked (at + 1) picks i (omega arith)
 
--- a list in order whose serials are its positions
+-- a list in order whose serials are its positions, and nothing beside it
 record Numbered (config : Config) (tuples : List Tuple) : Type 0 where
   shared : Shared config tuples
   lawful : Lawful tuples
+  only : (tuple : Tuple) → List·Memᴰ tuple tuples → isListTuple tuple ≡ true
   serials : (i : ℕ) → i < length tuples → serialOf (getD tuples i blankTuple) ≡ i + 1
 
-module _ (config : Config) (safe : sound config ≡ true) (is-four : config .policy ≡ 4) where
+-- where nothing is announced, a process's own entry is due
+own-due : (config : Config) (tuples : List Tuple) (call : Call) → hasList config ≡ true → ListCall tuples call → ((tuple : Tuple) → List·Memᴰ tuple tuples → isListTuple tuple ≡ true)
+    → listedProcess (call .entry) ≡ call .process → isDue config tuples call ≡ true
+own-due config tuples call shares list only own =
+    let silent : (process : ℕ) → Announcing tuples process → ⊥ =
+    λ process a. false≢true (sym (announcement-other (a .tuple) (a .shape)) ∙ only (a .tuple) (a .stands)) in
+    ⊎-elim
+    (λ four. nothing-owed config tuples call four ∙ eq-eqb (listedProcess (call .entry)) (call .process) own)
+    (λ five. due-rule config tuples call five list .1 (inr (record { own = own; free = inl (silent _) })))
+    (has-list-rule config .0 shares)
+
+module _ (config : Config) (safe : sound config ≡ true) (shares : hasList config ≡ true) where
+  whole : {tuples : List Tuple} → Numbered config tuples → listOf tuples ≡ tuples
+  whole {tuples} numbered = all-listed tuples (numbered .only)
+
   numbered-next : (tuples : List Tuple) → Numbered config tuples → (pick : Pick) → Able config pick → length tuples < positions
       → let at = length tuples + 1 in
       let entry = listTuple at (pick .process) at (pick .code) in
@@ -80,13 +98,15 @@ module _ (config : Config) (safe : sound config ≡ true) (is-four : config .pol
       let entry = listTuple at (pick .process) at (pick .code) in
       let call = listCas (pick .process) at at (pick .code) in
       let more = tuples ++ (entry ∷ []) in
-      let shares = has-list-rule config .1 (inl is-four) in
-      let whole = ap length (shared-whole is-four (numbered .shared)) in
+      let long = ap length (whole numbered) in
       let range = sound-range config safe in
-      let left = next-space config safe shares tuples (numbered .shared) (numbered .lawful) (pick .process) at (pick .process) at (pick .code) (omega arith) (omega (arith, whole)) (omega arith)
-      (able .known .0) (able .known .1) (omega (arith, able .known .1)) (omega arith) (able .some) (able .small)
-      (λ l. let stood = place tuples (l .stands) in omega (arith, stood .1, numbered .serials (stood .0) (stood .1), ap serialOf (stood .2), l .with-serial))
-      (nothing-owed config tuples call is-four ∙ eq-eqb (pick .process) (pick .process) refl) (omega (arith, whole)) in
+      let unlisted : Listed tuples (pick .process) at → ⊥ =
+      λ l. let stood = place tuples (l .stands) in omega (arith, stood .1, numbered .serials (stood .0) (stood .1), ap serialOf (stood .2), l .with-serial) in
+      let list = list-call config safe shares tuples (numbered .shared) (numbered .lawful) (pick .process) at (pick .process) at (pick .code) (omega arith) (omega (arith, long)) (omega arith)
+      (able .known .0) (able .known .1) (omega (arith, able .known .1)) (omega arith) (able .some) (able .small) unlisted in
+      let left = next-space config safe shares tuples (numbered .shared) (numbered .lawful) (pick .process) at (pick .process) at (pick .code) (omega arith) (omega (arith, long)) (omega arith)
+      (able .known .0) (able .known .1) (omega (arith, able .known .1)) (omega arith) (able .some) (able .small) unlisted
+      (own-due config tuples call shares list (numbered .only) refl) (omega (arith, long)) in
       let step = list-keeps config safe shares tuples (numbered .shared) call in
       let run = next {call = call} (record { tuples = tuples; lawful = numbered .lawful; same = refl }) .run in
       let stepped : step .next ≡ more = sym (held-of config (step .next)) ∙ ap held (sym (step .space) ∙ left) ∙ held-of config more in
@@ -94,6 +114,9 @@ module _ (config : Config) (safe : sound config ≡ true) (is-four : config .pol
         record {
           shared = subst (Shared config) stepped (step .kept);
           lawful = subst Lawful ran (run .lawful);
+          only = λ tuple m. ⊎-elim (numbered .only tuple)
+              (λ (new : List·Memᴰ tuple (entry ∷ [])). ap isListTuple (List·Memᴰ·eq-of-singleton new) ∙ list-tuple at (pick .process) at (pick .code))
+              (List·Memᴰ·append-cases tuples m);
           serials = each-more tuples entry (λ (i : ℕ) (t : Tuple). serialOf t ≡ i + 1) (numbered .serials) refl;
         },
         left,
@@ -120,9 +143,6 @@ module _ (config : Config) (safe : sound config ≡ true) (is-four : config .pol
       )
 
 -- ---- reading it: each process reads each position by rdp, which changes nothing
-
-readAt : ℕ → ℕ → Call
-readAt process position = record { process = process; code = rdp; template = listTemplate position; entry = blankTuple }
 
 -- the positions 1 to m
 sweep : ℕ → ℕ → List Call
@@ -178,10 +198,6 @@ sweeps-have (suc n) m process i some few h =
     Memᴰ·append-left (sweeps n m) here)
     (λ e. Memᴰ·append-right (sweep (n + 1) m) (sweeps-have n m process i some (omega (arith, eqb-false process (n + 1) e)) h))
 
-read-faultless : (process position : ℕ) → position ≤ largestCount → callFault (readAt process position) ≡ Absent
-unfolding readAt callFault usedFault usesTemplate usesEntry partFault tupleFault fieldsFault fieldFault knownHead largestOf restBlank restFrom placeBlank isBlank
-read-faultless process position small = rw (le-leb position largestCount small)
-
 turnOf : Space → Call → Turn
 turnOf space call = record { call = call; reply = applied space call .reply; space = applied space call .space }
 
@@ -201,16 +217,16 @@ module _ (space : Space) where
       (λ later. List·Memᴰ·tail (rw (still first (List·Memᴰ·head refl)) (turns-still calls (λ c m. still c (List·Memᴰ·tail m)) call later)))
       (List·Memᴰ·cases-cons occurs)
 
-module _ (config : Config) (safe : sound config ≡ true) (is-four : config .policy ≡ 4) (tuples : List Tuple) (numbered : Numbered config tuples) where
+module _ (config : Config) (safe : sound config ≡ true) (shares : hasList config ≡ true) (tuples : List Tuple) (numbered : Numbered config tuples) where
   orderly : Orderly tuples
-  orderly = subst Orderly (shared-whole is-four (numbered .shared)) (numbered .shared .list)
+  orderly = subst Orderly (all-listed tuples (numbered .only)) (numbered .shared .list)
 
   read-applied : (process i : ℕ) → 1 ≤ process → process ≤ config .n → i < length tuples → length tuples ≤ positions
       → applied (spaceOf config tuples) (readAt process (i + 1)) ≡ record { reply = record { outcome = Found; tuple = getD tuples i blankTuple }; space = spaceOf config tuples }
-  unfolding readAt effect carriedOut
+  unfolding effect carriedOut
   read-applied process i some few below short =
       permitted-applied (spaceOf config tuples) (readAt process (i + 1)) (formed-of config tuples safe (numbered .lawful)) (read-faultless process (i + 1) (omega arith)) (some, few)
-      (rw (held-of config tuples) (list-rule config tuples (readAt process (i + 1)) is-four .1 (inl refl)))
+      (rw (held-of config tuples) (list-rdp-rule config tuples (readAt process (i + 1)) shares refl))
       ∙ rw (held-of config tuples, list-found orderly i below) refl
 
   -- where they read, the space stays
@@ -221,21 +237,21 @@ module _ (config : Config) (safe : sound config ≡ true) (is-four : config .pol
       ∙ ap (λ (a : Applied). a .space) (read-applied (reads .process) (reads .i) (reads .some) (reads .few) (reads .below) short)
 
 pub every-list : EveryList
-unfolding turns turnOf readAt
-every-list config picks safe is-four short able =
-    let start : Numbered config [] = record { shared = shared-none config; lawful = none-lawful; serials = λ i h. absurd (omega arith) } in
+unfolding turns turnOf
+every-list config picks safe shares short able =
+    let start : Numbered config [] = record { shared = shared-none config; lawful = none-lawful; only = λ tuple m. absurd (List·Memᴰ·not-nil m); serials = λ i h. absurd (omega arith) } in
     let fresh = fresh-space config safe in
-    let list = filled config safe is-four picks [] start able (omega arith) in
+    let list = filled config safe shares picks [] start able (omega arith) in
     let tuples = entries 1 picks in
     let numbered = list .0 in
     let long : length tuples ≡ length picks = entries-length 1 picks in
     let filling = fills 1 picks in
     let reading = sweeps (config .n) (length tuples) in
     let calls = filling ++ reading in
-    let stays = still config safe is-four tuples numbered (omega (arith, long)) in
+    let stays = still config safe shares tuples numbered (omega (arith, long)) in
     let between : last config filling ≡ spaceOf config tuples = ap (λ (s : Space). after s filling) fresh ∙ list .1 in
     let end : last config calls ≡ spaceOf config tuples = after-append _ filling reading ∙ ap (λ (s : Space). after s reading) between ∙ after-still (spaceOf config tuples) reading stays in
-    let lists : listAfter config calls ≡ tuples = ap (λ (s : Space). listOf (held s)) end ∙ ap listOf (held-of config tuples) ∙ shared-whole is-four (numbered .shared) in (
+    let lists : listAfter config calls ≡ tuples = ap (λ (s : Space). listOf (held s)) end ∙ ap listOf (held-of config tuples) ∙ all-listed tuples (numbered .only) in (
       calls,
       record {
         many = ap length lists ∙ long;
@@ -248,14 +264,14 @@ every-list config picks safe is-four short able =
           many = long;
           each = λ i h. let below : i < length tuples = omega (arith, long) in
               let call = readAt process (i + 1) in
-              let reads = read-applied config safe is-four tuples numbered process i some few below (omega (arith, long)) in
+              let reads = read-applied config safe shares tuples numbered process i some few below (omega (arith, long)) in
               let here = turns-still (spaceOf config tuples) reading stays call (sweeps-have (config .n) (length tuples) process i some few below) in
               record {
                 turn = turnOf (spaceOf config tuples) call;
                 occurs = turns-behind _ filling reading _ (rw between here);
                 by = refl;
-                shape = orderly config safe is-four tuples numbered .each i below .shape;
-                at = orderly config safe is-four tuples numbered .each i below .at;
+                shape = orderly config safe shares tuples numbered .each i below .shape;
+                at = orderly config safe shares tuples numbered .each i below .at;
                 told = finds (ap (λ (a : Applied). a .reply .outcome) reads) (ap (λ (a : Applied). a .reply .tuple) reads);
               };
         },

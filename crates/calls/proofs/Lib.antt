@@ -13,6 +13,7 @@ pub mod ListSteps
 pub mod ListingLaws
 pub mod NeverFullLaws
 pub mod ObeyedLaws
+pub mod PositionLaws
 pub mod ReadingLaws
 pub mod RefusedLaws
 pub mod RunSteps

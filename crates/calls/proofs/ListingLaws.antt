@@ -59,7 +59,7 @@ use Rattle.tuple.proofs.NoFault.{entry-small}
 
 -- ---- the list is all that is held under policy 4
 
-all-listed : (tuples : List Tuple) → ((tuple : Tuple) → List·Memᴰ tuple tuples → isListTuple tuple ≡ true) → listOf tuples ≡ tuples
+pub all-listed : (tuples : List Tuple) → ((tuple : Tuple) → List·Memᴰ tuple tuples → isListTuple tuple ≡ true) → listOf tuples ≡ tuples
 unfolding listOf
 all-listed [] each = refl
 all-listed (tuple ∷ tuples) each =
@@ -256,7 +256,7 @@ list-faultless caller position process serial code q p s c =
     rw (le-leb position largestCount q, le-leb process largestCount p, le-leb serial largestCount s, le-leb code largestCode c)
 
 -- a template of five fields matches no announcement
-five-other : (position : ℕ) (tuple : Tuple) → isAnnouncement tuple ≡ true → matches (listTemplate position) tuple ≡ false
+pub five-other : (position : ℕ) (tuple : Tuple) → isAnnouncement tuple ≡ true → matches (listTemplate position) tuple ≡ false
 unfolding matches
 five-other position tuple shape =
     cases (matches (listTemplate position) tuple)

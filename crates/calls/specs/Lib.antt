@@ -5,5 +5,6 @@ pub mod Laws
 pub mod ListLaws
 pub mod ListWitnesses
 pub mod Lists
+pub mod ReadingLaws
 pub mod RunLaws
 pub mod Turns

@@ -7,7 +7,7 @@ use lib.ListN.{length, getD}
 use Rattle.calls.specs.Lists.{listAfter, listFor, listCas, announceOut, ReadTo, Standing}
 use Rattle.calls.specs.Turns.{applied, last}
 use Rattle.space.specs.declared.config.Config.{Config}
-use Rattle.space.specs.Configs.{sound}
+use Rattle.space.specs.Configs.{sound, hasList}
 use Rattle.space.specs.Lists.{listedProcess, shiftCode}
 use Rattle.tuple.specs.declared.field.Tuple.{Tuple}
 use Rattle.tuple.specs.declared.field.Call.{Call}
@@ -40,7 +40,7 @@ abbrev pub EveryList : Type 0
 EveryList =
     (config : Config) (picks : List Pick)
     → sound config ≡ true
-    → config .policy ≡ 4
+    → hasList config ≡ true
     → length picks ≤ 112
     → ((pick : Pick) → List·Memᴰ pick picks → Able config pick)
     → (calls : List Call)

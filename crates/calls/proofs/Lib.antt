@@ -1,4 +1,6 @@
 pub mod Advances
+pub mod AnnouncementLaws
+pub mod AnnouncementSteps
 pub mod CallLaws
 pub mod CallSteps
 pub mod ChangeLaws

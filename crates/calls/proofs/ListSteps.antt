@@ -290,7 +290,7 @@ pub data Step (config : Config) (tuples : List Tuple) (call : Call) (done : Appl
   full : capacity ≤ length tuples → Step config tuples call done
 
 -- a tuple of as many fields as the template is no list tuple, if that has four
-four-other : (template tuple : Tuple) → template .count ≡ 4 → matches template tuple ≡ true → isListTuple tuple ≡ false
+pub four-other : (template tuple : Tuple) → template .count ≡ 4 → matches template tuple ≡ true → isListTuple tuple ≡ false
 unfolding matches
 four-other template tuple many h =
     let same : tuple .count ≡ template .count = eqb-true _ _ (and-eq-true-iff (eqb (tuple .count) (template .count)) _ .0 h .0) in

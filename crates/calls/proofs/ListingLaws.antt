@@ -83,7 +83,7 @@ pub record Left (config : Config) (calls : List Call) : Type 0 where
   pub lists : listAfter config calls ≡ listOf tuples
 
 -- why an entry was due
-due-by : (config : Config) (tuples : List Tuple) (call : Call) → hasList config ≡ true → Lists config tuples call
+pub due-by : (config : Config) (tuples : List Tuple) (call : Call) → hasList config ≡ true → Lists config tuples call
     → (call .process ≡ listedProcess (call .entry)) ⊎ ((config .policy ≡ 5) × Oldest tuples (listedProcess (call .entry)) (serialOf (call .entry)) (shiftCode (call .entry)))
 due-by config tuples call lists put =
     ⊎-elim

@@ -1,25 +1,24 @@
 -- When a process has read positions and who listed a tuple, exactly; and what rdp of a position answers. From the definitions and what a run leaves.
-use mathlib.Core.Path.{_≡_, refl, sym, ap, _∙_, subst}
+use mathlib.Core.Path.{_≡_, refl, sym, ap, _∙_}
 use Prim.Native.Nat.{ℕ, _+_, _-_, _≤_, _<_}
 use native.Mathlib.Omega.{arith}
-use mathlib.Core.Bool.{true, false}
+use mathlib.Core.Bool.{true}
 use mathlib.Core.List.{List, List·Memᴰ}
 use lib.ListN.{length, getD}
 use borrow.Author.Tests.{le-leb}
 use borrow.Table.Steps.{cases}
 use Rattle.calls.specs.Laws.{Obeyed}
-use Rattle.calls.specs.Lists.{listOf, listAfter}
+use Rattle.calls.specs.Lists.{listOf}
 use Rattle.calls.specs.ReadingLaws.{ReadToWhen, OwnCasWhen, ListedByWhen, readAt, PositionReads}
-use Rattle.calls.specs.Turns.{applied, last}
 use Rattle.calls.proofs.ListSteps.{listed-mem, mem-listed, orderly-all, Kind, key, apart-differ, Shared}
 use Rattle.calls.proofs.ListingLaws.{left, five-other}
 use Rattle.calls.proofs.ObeyedLaws.{obeyed-rules}
 use Rattle.policy.proofs.ListingLaws.{list-template, list-match, match-list, list-rdp-rule}
 use Rattle.space.specs.declared.config.Config.{Config}
-use Rattle.space.specs.Configs.{sound, hasList}
+use Rattle.space.specs.Configs.{sound}
 use Rattle.space.specs.Lists.{isListTuple, positionOf, Filled}
-use Rattle.space.specs.Spaces.{held, spaceOf}
-use Rattle.space.proofs.SpaceRules.{Lawful, held-of, formed-of, stands, place}
+use Rattle.space.specs.Spaces.{spaceOf}
+use Rattle.space.proofs.SpaceRules.{held-of, formed-of, stands, place}
 use Rattle.tuple.specs.declared.fault.Fault.the-variants.{Absent}
 use Rattle.tuple.specs.declared.field.Tuple.{Tuple}
 use Rattle.tuple.specs.declared.matching.Found.the-variants.{At, Nowhere}

@@ -1,3 +1,4 @@
+pub mod AnnouncementLaws
 pub mod Changes
 pub mod Counts
 pub mod Effects

@@ -8,6 +8,7 @@ pub mod EffectLaws
 pub mod Effects
 pub mod EveryHelpLaws
 pub mod EveryListLaws
+pub mod EveryWaitLaws
 pub mod HelpingLaws
 pub mod JustifiedLaws
 pub mod Keys

@@ -123,3 +123,27 @@ OthersListed =
     → applied (last config before) call .reply .outcome ≡ Inserted
     → (call .process ≡ field (call .entry) 2 .value → ⊥)
     → AnnouncedFor config before (call .entry)
+
+-- ---- so that none of this is empty
+
+-- all that `Helped` asks: an announcement stands while the first n positions behind its out are filled, here by cas calls of one helper alone
+pub record Waited (config : Config) (process helper : ℕ) : Type 0 where
+  pub before : List Call
+  pub calls : List Call
+  pub serial : ℕ
+  pub code : ℕ
+  pub standing : Standing config before calls process serial code
+  pub filled : length (listAfter config before) + config .n ≤ length (listAfter config (before ++ (announceOut process serial code ∷ calls)))
+  pub helping : (call : Call) → List·Memᴰ call calls → (call .code ≡ 4) × (call .process ≡ helper)
+
+-- for every process and every helper, be it another one or itself
+abbrev pub EveryWait : Type 0
+EveryWait =
+    (config : Config) (process helper : ℕ)
+    → sound config ≡ true
+    → config .policy ≡ 5
+    → 1 ≤ process
+    → process ≤ config .n
+    → 1 ≤ helper
+    → helper ≤ config .n
+    → Waited config process helper

@@ -9,6 +9,7 @@ pub mod Effects
 pub mod EveryHelpLaws
 pub mod EveryListLaws
 pub mod EveryWaitLaws
+pub mod HandedLaws
 pub mod HelpingLaws
 pub mod JustifiedLaws
 pub mod Keys

@@ -2,6 +2,7 @@ pub mod AnnouncementLaws
 pub mod Changes
 pub mod Counts
 pub mod Effects
+pub mod HandedLaws
 pub mod Laws
 pub mod ListLaws
 pub mod ListWitnesses

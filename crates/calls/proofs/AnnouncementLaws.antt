@@ -11,7 +11,7 @@ use lib.Seq.{append-snoc}
 use lib.Dec.{ltb, eqb}
 use borrow.Author.Tests.{ltb-true, ltb-false, eqb-true, eqb-false}
 use borrow.Table.Steps.{cases}
-use Rattle.calls.specs.AnnouncementLaws.{AnnouncedBy, AnnouncedByRule, LeavesRule, OwnHands, ShiftListed, HelpedShift, OthersListed}
+use Rattle.calls.specs.AnnouncementLaws.{StandingWhen, WithinWhen, AnnouncedBy, AnnouncedByRule, LeavesRule, OwnHands, ShiftListed, HelpedShift, OthersListed}
 use Rattle.calls.specs.Changes.{without}
 use Rattle.calls.specs.Lists.{listAfter, announceOut, OwnCas, ListedBy, Standing}
 use Rattle.calls.specs.Lists.Tells.{inserts}
@@ -41,6 +41,18 @@ use Rattle.tuple.specs.declared.reply.Outcome.the-variants.{Done, Found, Insert
 use Rattle.tuple.specs.declared.reply.Reply.{Reply}
 use Rattle.tuple.specs.Fields.{inp, blankTuple}
 use Rattle.tuple.specs.Forms.{announcement}
+
+-- ---- the words
+
+pub standing-when : StandingWhen
+standing-when config before calls process serial code =
+    (λ standing. (standing .done, standing .unlisted, standing .stands), λ h. record { done = h .0; unlisted = h .1; stands = h .2 })
+
+pub within-when : WithinWhen
+within-when config before end last-one process serial = (
+  λ within. (within .i, within .late, within .soon, within .filled, within .by, within .with-serial),
+  λ h. record { i = h .0; late = h .1; soon = h .2; filled = h .3; by = h .4; with-serial = h .5 },
+)
 
 -- ---- where one is taken off
 

@@ -18,7 +18,34 @@ use Rattle.tuple.specs.declared.field.Tuple.{Tuple}
 use Rattle.tuple.specs.declared.field.Call.{Call}
 use Rattle.tuple.specs.declared.reply.Outcome.the-variants.{Done, Found, Inserted}
 use Rattle.tuple.specs.Fields.{blankTuple}
+use Rattle.tuple.specs.Forms.{announcement}
 use Rattle.tuple.specs.Shapes.{field}
+
+-- ---- the words, exactly
+
+-- an announcement stands from its out on exactly if that out was done, its process and serial were not listed then, and it is held in each space behind it, up
+-- to the end of the calls
+abbrev pub StandingWhen : Type 0
+StandingWhen =
+    (config : Config) (before calls : List Call) (process serial code : ℕ)
+    → Standing config before calls process serial code
+    ↔ ((applied (last config before) (announceOut process serial code) .reply .outcome ≡ Done)
+    × (Listed (held (last config before)) process serial → ⊥)
+    × ((early late : List Call)
+    → calls ≡ early ++ late
+    → List·Memᴰ (announcement process serial code) (held (last config (before ++ (announceOut process serial code ∷ early))))))
+
+-- a process and a serial are listed within these positions exactly if one of the list's tuples from there on has them in its third and fourth field
+abbrev pub WithinWhen : Type 0
+WithinWhen =
+    (config : Config) (before end : List Call) (last-one process serial : ℕ)
+    → ListedWithin config before end last-one process serial
+    ↔ ((i : ℕ)
+    × (length (listAfter config before) ≤ i)
+    × (i < last-one)
+    × (i < length (listAfter config end))
+    × (field (getD (listAfter config end) i blankTuple) 2 .value ≡ process)
+    × (field (getD (listAfter config end) i blankTuple) 3 .value ≡ serial))
 
 -- ---- who puts one
 

@@ -2,29 +2,40 @@
 -- a length, 2^32 is added to it. How replies, states and steps are written in numbers is said in `Numbers`.
 use mathlib.Core.Path.{_≡_}
 use mathlib.Core.Bool.{true}
-use mathlib.Core.List.{List}
-use Prim.Native.Nat.{ℕ, _+_, _≤_}
+use mathlib.Core.List.{List, [], _∷_, _++_}
+use Prim.Native.Nat.{ℕ, _+_, _≤_, _<_}
 use lib.IntN.{ℤ}
+use lib.ListN.{length, drop}
 use Rattle.board_c.specs.declared.reply.FlatReply.{FlatReply}
 use Rattle.board_c.specs.declared.state.FlatProcess.{FlatProcess}
 use Rattle.board_c.specs.Flat.{flatReply, replyOf, isPhase, processOf, flatStep, scripted, opened, applied, started, resumed, readAt, written, dumped}
 use Rattle.calls.specs.Turns.{applied as callApplied}
-use Rattle.dump.specs.Dumps.{writtenOf as dumpWritten}
+use Rattle.dump.specs.Dumps.{dumpBytes, writtenOf as dumpWritten, leftOf as dumpLeft}
 use Rattle.process.specs.Procedure.{started as processStarted, resumed as processResumed}
 use Rattle.record.specs.declared.reader.Next.the-variants.{At, Refused as Unread}
 use Rattle.record.specs.declared.writer.Recorded.the-variants as recorded
 use Rattle.record.specs.Reading.{callAt}
-use Rattle.record.specs.Writing.{writtenOf}
+use Rattle.record.specs.Writing.{callBytes, writtenOf, leftOf as recordLeft, Typed as TypedCall}
 use Rattle.script.specs.declared.run.Printed.the-variants as printed
-use Rattle.script.specs.Printing.{printedOf}
+use Rattle.script.specs.Printing.{text, printedOf, leftOf as textLeft}
 use Rattle.space.specs.declared.config.Config.{Config}
 use Rattle.space.specs.declared.space.Opening.the-variants.{Stands, Unopened}
 use Rattle.space.specs.declared.space.Space.{Space}
-use Rattle.space.specs.Spaces.{freshOf}
+use Rattle.space.specs.Spaces.{freshOf, Typed}
 use Rattle.tuple.specs.declared.field.Call.{Call}
 use Rattle.tuple.specs.declared.offset.Offset.the-variants.{Bottom, Hundredths}
 use Rattle.tuple.specs.declared.refusal.Refusal.{Refusal}
 use Rattle.tuple.specs.Refusals.{numberOf}
+
+-- each element is a byte
+abbrev pub Bytes : List ℕ → Type 0
+Bytes [] = Unit {0}
+Bytes (b ∷ l) = (b < 256) × Bytes l
+
+-- an answer of 2^32 or more leaves the buffer as it was; below, it is how many bytes stand from its first on, and the rest is as it was
+pub record Wrote (answer : ℕ) (bytes before after : List ℕ) : Type 0 where
+  pub kept : 4_294_967_296 ≤ answer → after ≡ before
+  pub stored : answer < 4_294_967_296 → (length bytes ≡ answer) × (answer ≤ length before) × (after ≡ bytes ++ drop answer before)
 
 pub record Exports : Type 0 where
   -- board_script: a script and the room for its text
@@ -54,3 +65,7 @@ pub record Exports : Type 0 where
   pub dump : (space : Space) (room n : ℕ) → dumpWritten space room ≡ recorded.Length n → dumped space room ≡ n
   pub dump-refused : (space : Space) (room : ℕ) (why : Refusal) → dumpWritten space room ≡ recorded.Unwritten why
       → dumped space room ≡ 4_294_967_296 + numberOf why
+  -- what board_script, board_write and board_dump leave in the buffer
+  pub script-left : (s buffer : List ℕ) → Bytes s → Wrote (scripted s (length buffer)) (text s) buffer (textLeft s buffer)
+  pub write-left : (call : Call) (buffer : List ℕ) → TypedCall call → Wrote (written call (length buffer)) (callBytes call) buffer (recordLeft call buffer)
+  pub dump-left : (space : Space) (buffer : List ℕ) → Typed space → Wrote (dumped space (length buffer)) (dumpBytes space) buffer (dumpLeft space buffer)

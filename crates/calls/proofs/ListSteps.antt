@@ -1,11 +1,11 @@
 -- What a call does under policies 4 and 5: the list tuples held are a list in the order of its positions, each other tuple is an announcement, one to a
 -- process, and a call changes nothing, or puts the next entry or an announcement, or takes an announcement off.
 use mathlib.Core.Path.{_≡_, refl, sym, ap, _∙_, subst}
-use mathlib.Core.Logic.{_⊎_, inl, inr, ⊎-elim}
+use mathlib.Core.Logic.{_⊎_, ⊎-elim}
 use Prim.Native.Nat.{ℕ, zero, suc, _+_, _-_, _≤_, _<_}
 use native.Mathlib.Omega.{arith}
 use mathlib.Core.Bool.{true, false, cond, and-eq-true-iff}
-use mathlib.Core.List.{List, [], _∷_, _++_, append-nil, append-assoc, List·Memᴰ, List·Memᴰ·head, List·Memᴰ·tail, List·Memᴰ·not-nil, List·Memᴰ·cases-cons, List·Memᴰ·append-cases, List·Memᴰ·eq-of-singleton, Memᴰ·append-left, Memᴰ·append-right}
+use mathlib.Core.List.{List, [], _∷_, _++_, append-nil, List·Memᴰ, List·Memᴰ·head, List·Memᴰ·tail, List·Memᴰ·not-nil, List·Memᴰ·cases-cons, List·Memᴰ·append-cases, List·Memᴰ·eq-of-singleton, Memᴰ·append-left, Memᴰ·append-right}
 use lib.ListN.{length, take, drop, getD, length-append, take-append-drop, List·getD-append}
 use lib.Seq.{getD-append-seam}
 use lib.Dec.{ltb, eqb}
@@ -21,7 +21,7 @@ use Rattle.calls.proofs.CallSteps.Puts.{by-out, by-cas}
 use Rattle.calls.proofs.Keys.{at-most}
 use Rattle.calls.proofs.Walks.{Keeps}
 use Rattle.policy.specs.declared.verdicts.Verdict.the-variants.{Permit}
-use Rattle.policy.specs.Laws.{ListCall, OwnAnnouncement, TakesOff}
+use Rattle.policy.specs.Laws.{ListCall, OwnAnnouncement}
 use Rattle.policy.specs.Listing.{positions, isDue}
 use Rattle.policy.specs.Policies.{verdictOn}
 use Rattle.policy.proofs.AnnouncingLaws.{announce-rule, take-off-rule}
@@ -33,21 +33,22 @@ use Rattle.space.specs.Lists.{listedProcess, isListTuple, positionOf, serialOf,
 use Rattle.space.specs.Spaces.{held, spaceOf}
 use Rattle.space.proofs.AnnouncementLaws.{announcement-parts}
 use Rattle.space.proofs.ConfigLaws.{sound-range, has-list-rule}
-use Rattle.space.proofs.ListLaws.{list-parts}
 use Rattle.space.proofs.SpaceRules.{held-of, formed-few, stands, place}
 use Rattle.tuple.specs.declared.field.Tuple.{Tuple}
 use Rattle.tuple.specs.declared.field.Call.{Call}
-use Rattle.tuple.specs.declared.matching.Found.the-variants.{At, Nowhere}
+use Rattle.tuple.specs.declared.matching.Found.the-variants.{Nowhere}
 use Rattle.tuple.specs.declared.refusal.Refusal.the-variants.{Full}
 use Rattle.tuple.specs.declared.reply.Outcome.{Outcome}
 use Rattle.tuple.specs.declared.reply.Outcome.the-variants.{Inserted, Refused}
 use Rattle.tuple.specs.Bounds.{capacity}
-use Rattle.tuple.specs.Fields.{out, rdp, inp, cas, blankTuple}
+use Rattle.tuple.specs.Fields.{rdp, cas, blankTuple}
+use Rattle.tuple.specs.Forms.{listTupleShape}
 use Rattle.tuple.specs.Matching.{matches, oldestOf}
 use Rattle.tuple.specs.Offsets.{bottom}
 use Rattle.tuple.specs.Refusals.{numberOf}
 use Rattle.tuple.proofs.Lists.{drop-step}
 use Rattle.tuple.proofs.MatchRules.{oldest-rule}
+use Rattle.tuple.proofs.ShapeLaws.{shape-parts}
 
 -- ---- the list among the tuples
 
@@ -200,7 +201,7 @@ pub data Kind (config : Config) (tuple : Tuple) : Type 0 where
 
 pub announcement-other : (tuple : Tuple) → isAnnouncement tuple ≡ true → isListTuple tuple ≡ false
 announcement-other tuple h =
-    cases (isListTuple tuple) (λ e. absurd (omega (arith, announcement-parts tuple h .counted, list-parts tuple e .counted))) (λ e. e)
+    cases (isListTuple tuple) (λ e. absurd (omega (arith, announcement-parts tuple h .0 .counted, shape-parts listTupleShape tuple e .counted))) (λ e. e)
 
 -- the key of a tuple: its position, or behind all positions its process
 unfoldable pub key : Tuple → ℕ
@@ -294,7 +295,7 @@ pub four-other : (template tuple : Tuple) → template .count ≡ 4 → matches 
 unfolding matches
 four-other template tuple many h =
     let same : tuple .count ≡ template .count = eqb-true _ _ (and-eq-true-iff (eqb (tuple .count) (template .count)) _ .0 h .0) in
-    cases (isListTuple tuple) (λ e. absurd (omega (arith, list-parts tuple e .counted))) (λ e. e)
+    cases (isListTuple tuple) (λ e. absurd (omega (arith, shape-parts listTupleShape tuple e .counted))) (λ e. e)
 
 module _ (config : Config) (lists : hasList config ≡ true) (tuples : List Tuple) (call : Call) where
   -- what is not permitted under policy 4 is asked under 5

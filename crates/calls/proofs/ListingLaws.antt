@@ -260,7 +260,7 @@ pub five-other : (position : ℕ) (tuple : Tuple) → isAnnouncement tuple ≡ t
 unfolding matches
 five-other position tuple shape =
     cases (matches (listTemplate position) tuple)
-    (λ e. let same : tuple .count ≡ 5 = eqb-true _ _ (and-eq-true-iff (eqb (tuple .count) 5) _ .0 e .0) in absurd (omega (arith, announcement-parts tuple shape .counted)))
+    (λ e. let same : tuple .count ≡ 5 = eqb-true _ _ (and-eq-true-iff (eqb (tuple .count) 5) _ .0 e .0) in absurd (omega (arith, announcement-parts tuple shape .0 .counted)))
     (λ e. e)
 
 -- a cas of 1 to n on such tuples, of a shift, at a position that is filled or the next
@@ -413,12 +413,12 @@ next-dues config calls caller safe five room one most =
           let oldest : Oldest tuples process serial code = rw (end .lists, end .holds) at waiting in
           let unlisted : Listed tuples process serial → ⊥ = rw (end .lists, end .holds) at fresh in
           let tuple = getD tuples (oldest .at) blankTuple in
-          let parts = announcement-parts tuple (oldest .shape) in
+          let parts = announcement-parts tuple (oldest .shape) .0 in
           let entry = end .lawful .entries tuple (stands tuples (oldest .at) (oldest .inside)) in
-          let low : process ≤ largestCount = rw (oldest .by) at (entry-small count tuple 1 entry (omega (arith, parts .counted)) (parts .process)) in
-          let small : serial ≤ largestCount = rw (oldest .with-serial) at (entry-small count tuple 2 entry (omega (arith, parts .counted)) (parts .serial)) in
-          let inside : code ≤ largestCode = rw (oldest .of) at (entry-small offset tuple 3 entry (omega (arith, parts .counted)) (parts .shift)) in
-          let some : code ≡ bottom → ⊥ = λ e. parts .some (oldest .of ∙ e) in
+          let low : process ≤ largestCount = rw (oldest .by) at (entry-small count tuple 1 entry (omega (arith, parts .counted)) (parts .second)) in
+          let small : serial ≤ largestCount = rw (oldest .with-serial) at (entry-small count tuple 2 entry (omega (arith, parts .counted)) (parts .third)) in
+          let inside : code ≤ largestCode = rw (oldest .of) at (entry-small offset tuple 3 entry (omega (arith, parts .counted)) (parts .fourth)) in
+          let some : code ≡ bottom → ⊥ = λ e. announcement-parts tuple (oldest .shape) .1 (oldest .of ∙ e) in
           let list = list-call config safe shares tuples (end .shared) (end .lawful) caller position process serial code (omega arith) (omega arith) (omega arith) one most low small some inside unlisted in
           rw (end .lists, end .space) (next-inserted config safe shares tuples (end .shared) (end .lawful) caller position process serial code (omega arith) (omega arith) (omega arith) one most low small some inside unlisted
           (due-rule config tuples (listFor caller position process serial code) five list .1 (inl (record { by = refl; oldest = oldest }))) refl);

@@ -15,8 +15,6 @@ use Rattle.dump.proofs.ByteLaws.{Sound}
 use Rattle.dump.proofs.Templates.{template-faultless}
 use Rattle.policy.specs.Listing.{isListTemplate, positions}
 use Rattle.policy.specs.Shapes.{isWeakTemplate, isDecisionTemplate}
-use Rattle.policy.proofs.DecisionLaws.{decision-parts}
-use Rattle.policy.proofs.ListingLaws.{template-parts}
 use Rattle.record.specs.Heads.{headNumber}
 use Rattle.record.specs.Writing.{fieldBytes, fieldsBytes, tupleBytes, partBytes, callBytes}
 use Rattle.record.proofs.Length.{width-one, field-most, fields-most, tuple-most}
@@ -26,8 +24,6 @@ use Rattle.space.specs.declared.config.Config.{Config}
 use Rattle.space.specs.Configs.{sound}
 use Rattle.space.specs.Lists.{listedProcess, isListTuple, positionOf, shiftCode}
 use Rattle.space.proofs.ConfigLaws.{sound-range, sound-choices, Deciding, proposals-deciding}
-use Rattle.space.proofs.ListLaws.{list-parts}
-use Rattle.space.proofs.ShapeLaws.{four, proposal-parts}
 use Rattle.tuple.specs.declared.fault.Fault.the-variants.{Absent}
 use Rattle.tuple.specs.declared.field.Field.{Field}
 use Rattle.tuple.specs.declared.field.Tuple.{Tuple}
@@ -35,11 +31,11 @@ use Rattle.tuple.specs.declared.field.Call.{Call}
 use Rattle.tuple.specs.Bounds.{places, largestCount, largestCode}
 use Rattle.tuple.specs.Faults.{isDefined, fieldsFault, tupleFault, partFault, usesTemplate, usesEntry, callFault}
 use Rattle.tuple.specs.Fields.{word, count, offset, processSet, defined, wildcard, formal, decision, listing, out, cas, largestOf, blankField}
-use Rattle.tuple.specs.Forms.{weakEntryShape}
-use Rattle.tuple.specs.Shapes.{field, is, says, hasShape}
+use Rattle.tuple.specs.Forms.{weakEntryShape, proposalShape, weakTemplateShape, decisionShape, decisionTemplateShape, listTupleShape, listTemplateShape}
+use Rattle.tuple.specs.Shapes.{field, is, says}
 use Rattle.tuple.proofs.FieldLaws.{kind-state}
 use Rattle.tuple.proofs.NoFault.{PassedField, fields-sound, tuple-sound, call-sound}
-use Rattle.tuple.proofs.ShapeLaws.{shape-count}
+use Rattle.tuple.proofs.ShapeLaws.{shape-parts}
 use Rattle.varint.specs.Writing.{bytesOf, widthOf}
 use Rattle.varint.proofs.WritingLaws.{bytes-last, bytes-step}
 
@@ -149,10 +145,9 @@ module _ (template : Tuple) (long : length (template .fields) ≡ places) (h : t
   round-most below = field-most (sound-at false (template .count) (template .fields) 1 (tuple-sound false template h .fields) below (omega arith))
 
   weak-most : isWeakTemplate template ≡ true → length (tupleBytes template) ≤ 10
-  unfolding hasShape
   weak-most shape =
-      let parts = four (eqb (template .count) 3) (says word decision (field template 0)) (is count defined (field template 1)) _ shape in
-      let counted : template .count ≡ 3 = eqb-true _ _ (parts .0) in
+      let parts = shape-parts weakTemplateShape template shape in
+      let counted = parts .counted in
       omega (
         arith,
         tuple-length template,
@@ -161,17 +156,15 @@ module _ (template : Tuple) (long : length (template .fields) ≡ places) (h : t
         next template long few 1 (omega arith),
         next template long few 2 (omega arith),
         none-left template long few 3 (omega arith),
-        word-length decision (field template 0) (parts .1) (omega arith),
+        word-length decision (field template 0) (parts .named) (omega arith),
         round-most (omega arith),
-        bare-length offset formal (field template 2) (parts .3) (omega arith) (omega arith) (omega arith),
+        bare-length offset formal (field template 2) (parts .third) (omega arith) (omega arith) (omega arith),
       )
 
   decision-most : isDecisionTemplate template ≡ true → length (tupleBytes template) ≤ 11
-  unfolding hasShape
   decision-most shape =
-      let last = and-eq-true-iff _ (is processSet wildcard (field template 3)) .0 shape in
-      let parts = four (eqb (template .count) 4) (says word decision (field template 0)) (is count defined (field template 1)) _ (last .0) in
-      let counted : template .count ≡ 4 = eqb-true _ _ (parts .0) in
+      let parts = shape-parts decisionTemplateShape template shape in
+      let counted = parts .counted in
       omega (
         arith,
         tuple-length template,
@@ -181,15 +174,15 @@ module _ (template : Tuple) (long : length (template .fields) ≡ places) (h : t
         next template long few 2 (omega arith),
         next template long few 3 (omega arith),
         none-left template long few 4 (omega arith),
-        word-length decision (field template 0) (parts .1) (omega arith),
+        word-length decision (field template 0) (parts .named) (omega arith),
         round-most (omega arith),
-        bare-length offset formal (field template 2) (parts .3) (omega arith) (omega arith) (omega arith),
-        bare-length processSet wildcard (field template 3) (last .1) (omega arith) (omega arith) (omega arith),
+        bare-length offset formal (field template 2) (parts .third) (omega arith) (omega arith) (omega arith),
+        bare-length processSet wildcard (field template 3) (parts .fourth) (omega arith) (omega arith) (omega arith),
       )
 
   list-template-most : isListTemplate template ≡ true → positionOf template ≤ positions → length (tupleBytes template) ≤ 8
   list-template-most shape low =
-      let asks = template-parts template shape in
+      let asks = shape-parts listTemplateShape template shape in
       let counted = asks .counted in
       omega (
         arith,
@@ -202,11 +195,11 @@ module _ (template : Tuple) (long : length (template .fields) ≡ places) (h : t
         next template long few 4 (omega arith),
         none-left template long few 5 (omega arith),
         word-length listing (field template 0) (asks .named) (omega arith),
-        value-length count (field template 1) (asks .position) (omega arith),
+        value-length count (field template 1) (asks .second) (omega arith),
         width-one (positionOf template) (omega arith),
-        bare-length count wildcard (field template 2) (asks .process) (omega arith) (omega arith) (omega arith),
-        bare-length count wildcard (field template 3) (asks .serial) (omega arith) (omega arith) (omega arith),
-        bare-length offset formal (field template 4) (asks .shift) (omega arith) (omega arith) (omega arith),
+        bare-length count wildcard (field template 2) (asks .third) (omega arith) (omega arith) (omega arith),
+        bare-length count wildcard (field template 3) (asks .fourth) (omega arith) (omega arith) (omega arith),
+        bare-length offset formal (field template 4) (asks .fifth) (omega arith) (omega arith) (omega arith),
       )
 
 -- a list tuple: its position and its process have one byte each, its serial five at most, and its shift three
@@ -214,11 +207,11 @@ list-tuple-most : (tuple : Tuple) → length (tuple .fields) ≡ places → tupl
     → positionOf tuple ≤ positions → listedProcess tuple < 128 → length (tupleBytes tuple) ≤ 17
 unfolding largestOf
 list-tuple-most tuple long h shape low short =
-    let parts = list-parts tuple shape in
+    let parts = shape-parts listTupleShape tuple shape in
     let counted = parts .counted in
     let sound = tuple-sound true tuple h in
     let at : (i : ℕ) → i < 5 → PassedField true (field tuple i) = λ i below. sound-at true (tuple .count) (tuple .fields) i (sound .fields) (omega arith) (omega arith) in
-    let head = kind-state offset defined (field tuple 4) (parts .shift) in
+    let head = kind-state offset defined (field tuple 4) (parts .fifth) in
     let here : isDefined (field tuple 4) ≡ true = rw (head .1) refl in
     let code : shiftCode tuple ≤ largestCode = rw (head .0) at (at 4 (omega arith) .small here) in
     omega (
@@ -232,12 +225,12 @@ list-tuple-most tuple long h shape low short =
       next tuple long (sound .few) 4 (omega arith),
       none-left tuple long (sound .few) 5 (omega arith),
       word-length listing (field tuple 0) (parts .named) (omega arith),
-      value-length count (field tuple 1) (parts .position) (omega arith),
+      value-length count (field tuple 1) (parts .second) (omega arith),
       width-one (positionOf tuple) (omega arith),
-      value-length count (field tuple 2) (parts .process) (omega arith),
+      value-length count (field tuple 2) (parts .third) (omega arith),
       width-one (listedProcess tuple) short,
       field-most (at 3 (omega arith)),
-      value-length offset (field tuple 4) (parts .shift) (omega arith),
+      value-length offset (field tuple 4) (parts .fifth) (omega arith),
       code-most (shiftCode tuple) code,
     )
 
@@ -282,16 +275,16 @@ module _ (config : Config) (tuple : Tuple) (call : Call) (sound : Sound call) (s
       let entry = tuple-most true (call .entry) (entry-faultless call (sound .faultless) (inl (by .code))) in
       omega (arith, bare-most config none, out-length call short (by .code))
   record-most (Appends.proposal rests shape by) =
-      let counted : call .entry .count ≡ 4 = ap (λ (t : Tuple). t .count) (by .entry) ∙ proposal-parts tuple shape .0 in
+      let counted : call .entry .count ≡ 4 = ap (λ (t : Tuple). t .count) (by .entry) ∙ shape-parts proposalShape tuple shape .counted in
       let entry = counted-most 4 (call .entry) counted (omega arith) (entry-faultless call (sound .faultless) (inl (by .code))) in
       omega (arith, deciding-most config (proposals-deciding config rests), out-length call short (by .code))
   record-most (Appends.weak one shape by) =
-      let counted : call .entry .count ≡ 3 = ap (λ (t : Tuple). t .count) (by .entry) ∙ shape-count weakEntryShape tuple shape in
+      let counted : call .entry .count ≡ 3 = ap (λ (t : Tuple). t .count) (by .entry) ∙ shape-parts weakEntryShape tuple shape .counted in
       let entry = counted-most 3 (call .entry) counted (omega arith) (entry-faultless call (sound .faultless) (inr (by .code))) in
       let template = weak-most (call .template) (sound .typed .template) (template-faultless call (sound .faultless) (by .code)) (by .template) in
       omega (arith, deciding-most config (omega arith, omega arith), cas-length call short (by .code))
   record-most (Appends.decision rests shape by) =
-      let counted : call .entry .count ≡ 4 = ap (λ (t : Tuple). t .count) (by .entry) ∙ decision-parts tuple shape .0 in
+      let counted : call .entry .count ≡ 4 = ap (λ (t : Tuple). t .count) (by .entry) ∙ shape-parts decisionShape tuple shape .counted in
       let entry = counted-most 4 (call .entry) counted (omega arith) (entry-faultless call (sound .faultless) (inr (by .code))) in
       let template = decision-most (call .template) (sound .typed .template) (template-faultless call (sound .faultless) (by .code)) (by .template) in
       omega (arith, deciding-most config (proposals-deciding config rests), cas-length call short (by .code))

@@ -13,7 +13,7 @@ use Rattle.tuple.specs.Bounds.{places}
 use Rattle.tuple.specs.Faults.{tupleFault, partFault, usesTemplate, restBlank, callFault}
 use Rattle.tuple.specs.Fields.{cas}
 use Rattle.tuple.specs.Forms.{weakEntryShape, weakTemplate, decisionShape, decisionTemplate}
-use Rattle.tuple.proofs.ShapeLaws.{forms-made, shape-count}
+use Rattle.tuple.proofs.ShapeLaws.{forms-made, shape-parts}
 use Rattle.tuple.proofs.NoFault.{call-sound}
 
 -- ---- the parts of a cas
@@ -33,11 +33,11 @@ module _ (template entry : Tuple) (asked : length (template .fields) ≡ places)
   pub weak-template : isWeakTemplate template ≡ true → isWeakEntry entry ≡ true → template ≡ templateOf entry
   unfolding templateOf
   weak-template t e =
-      let three : templateOf entry ≡ weakTemplate (roundOf entry) = rw (shape-count weakEntryShape entry e) in
+      let three : templateOf entry ≡ weakTemplate (roundOf entry) = rw (shape-parts weakEntryShape entry e .counted) in
       forms-made .weak-template template asked blank .0 t ∙ ap weakTemplate same ∙ sym three
 
   pub decision-template : isDecisionTemplate template ≡ true → isDecision entry ≡ true → template ≡ templateOf entry
   unfolding templateOf
   decision-template t e =
-      let four : templateOf entry ≡ decisionTemplate (roundOf entry) = rw (shape-count decisionShape entry e) in
+      let four : templateOf entry ≡ decisionTemplate (roundOf entry) = rw (shape-parts decisionShape entry e .counted) in
       forms-made .decision-template template asked blank .0 t ∙ ap decisionTemplate same ∙ sym four

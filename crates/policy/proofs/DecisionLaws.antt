@@ -11,12 +11,14 @@ use borrow.Table.Steps.{cases}
 use Rattle.policy.specs.Shapes.{isWeakTemplate, isWeakEntry, isDecisionTemplate, isDecision}
 use Rattle.space.specs.declared.config.Config.{Config}
 use Rattle.space.specs.Shapes.{isProposal, roundOf}
-use Rattle.space.proofs.ShapeLaws.{four, within-fields, proposal-parts}
+use Rattle.space.proofs.ShapeLaws.{four, within-fields}
 use Rattle.tuple.specs.declared.field.Field.{Field}
 use Rattle.tuple.specs.declared.field.Tuple.{Tuple}
 use Rattle.tuple.specs.Fields.{word, count, offset, processSet, defined, wildcard, formal, propose, decision, blankField}
+use Rattle.tuple.specs.Forms.{proposalShape}
 use Rattle.tuple.specs.Matching.{fieldMatches, fieldsMatch, matches}
 use Rattle.tuple.specs.Shapes.{field, is, says, hasShape}
+use Rattle.tuple.proofs.ShapeLaws.{shape-parts}
 
 -- a decision, and the template of one, under policies 1 to 3
 abbrev pub decides : Config → Tuple → Bool
@@ -90,13 +92,10 @@ default-front : (tuple : Tuple) → isDecision tuple ≡ true → Front 4 define
 unfolding hasShape
 default-front tuple h = let parts = and-eq-true-iff _ (is processSet defined (field tuple 3)) .0 h in (front 4 defined tuple (parts .0), parts .1)
 
-pub decision-parts : (tuple : Tuple) → isDecision tuple ≡ true → (tuple .count ≡ 4) × (is offset defined (field tuple 2) ≡ true)
-decision-parts tuple h = let front = default-front tuple h .0 in (front .counted, front .last)
-
 unproposed : {n : ℕ} (tuple : Tuple) → Front n defined tuple → isProposal tuple ≡ false
 unproposed tuple f =
     cases (isProposal tuple)
-    (λ e. absurd (omega (arith, said word propose (field tuple 0) (proposal-parts tuple e .1), said word decision (field tuple 0) (f .named))))
+    (λ e. absurd (omega (arith, said word propose (field tuple 0) (shape-parts proposalShape tuple e .named), said word decision (field tuple 0) (f .named))))
     (λ e. e)
 
 pub no-proposal : (config : Config) (tuple : Tuple) → decides config tuple ≡ true → isProposal tuple ≡ false

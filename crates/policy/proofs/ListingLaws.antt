@@ -19,37 +19,22 @@ use Rattle.space.specs.declared.config.Config.{Config}
 use Rattle.space.specs.Configs.{hasProposals, hasList}
 use Rattle.space.specs.Lists.{listedProcess, isListTuple, positionOf, serialOf, shiftCode, isListed, Filled, Listed}
 use Rattle.space.proofs.ConfigLaws.{proposals-deciding, has-list-rule}
-use Rattle.space.proofs.ListLaws.{list-parts, filled-rule, listed-rule}
+use Rattle.space.proofs.ListLaws.{filled-rule, listed-rule}
 use Rattle.space.proofs.ShapeLaws.{four, within-fields}
 use Rattle.tuple.specs.declared.field.Tuple.{Tuple}
 use Rattle.tuple.specs.declared.field.Call.{Call}
 use Rattle.tuple.specs.Fields.{word, count, offset, defined, wildcard, formal, out, rdp, inp, cas, listing}
-use Rattle.tuple.specs.Forms.{listTemplate}
+use Rattle.tuple.specs.Forms.{listTemplate, listTupleShape, listTemplateShape}
 use Rattle.tuple.specs.Laws.{FieldMatch}
 use Rattle.tuple.specs.Matching.{matches}
 use Rattle.tuple.specs.Offsets.{bottom}
 use Rattle.tuple.specs.Refusals.{refusal}
-use Rattle.tuple.specs.Shapes.{field, is, says, hasShape}
+use Rattle.tuple.specs.Shapes.{field, is, hasShape}
 use Rattle.tuple.proofs.FieldLaws.{kind-state, field-is, field-says}
 use Rattle.tuple.proofs.MatchRules.{matches-rule}
+use Rattle.tuple.proofs.ShapeLaws.{shape-parts}
 
 -- ---- the template
-
-pub record Asks (tuple : Tuple) : Type 0 where
-  pub counted : tuple .count ≡ 5
-  pub named : says word listing (field tuple 0) ≡ true
-  pub position : is count defined (field tuple 1) ≡ true
-  pub process : is count wildcard (field tuple 2) ≡ true
-  pub serial : is count wildcard (field tuple 3) ≡ true
-  pub shift : is offset formal (field tuple 4) ≡ true
-
-pub template-parts : (tuple : Tuple) → isListTemplate tuple ≡ true → Asks tuple
-unfolding hasShape
-template-parts tuple h =
-    let last = and-eq-true-iff _ (is offset formal (field tuple 4)) .0 h in
-    let fourth = and-eq-true-iff _ (is count wildcard (field tuple 3)) .0 (last .0) in
-    let front = four (eqb (tuple .count) 5) (says word listing (field tuple 0)) (is count defined (field tuple 1)) (is count wildcard (field tuple 2)) (fourth .0) in
-    record { counted = eqb-true _ _ (front .0); named = front .1; position = front .2; process = front .3; serial = fourth .1; shift = last .1 }
 
 pub list-template : (position : ℕ) → isListTemplate (listTemplate position) ≡ true
 unfolding hasShape
@@ -58,14 +43,14 @@ list-template position = refl
 pub list-template-rule : ListTemplateRule
 unfolding hasShape
 list-template-rule template = (
-  λ h. let asks = template-parts template h in
+  λ h. let asks = shape-parts listTemplateShape template h in
       record {
         five = asks .counted;
         first = field-says word listing (field template 0) (asks .named);
-        second = field-is count defined (field template 1) (asks .position) _ refl;
-        third = kind-state count wildcard (field template 2) (asks .process);
-        fourth = kind-state count wildcard (field template 3) (asks .serial);
-        fifth = kind-state offset formal (field template 4) (asks .shift);
+        second = field-is count defined (field template 1) (asks .second) _ refl;
+        third = kind-state count wildcard (field template 2) (asks .third);
+        fourth = kind-state count wildcard (field template 3) (asks .fourth);
+        fifth = kind-state offset formal (field template 4) (asks .fifth);
       },
   λ t. rw (t .five, t .first, t .second, t .third .0, t .third .1, t .fourth .0, t .fourth .1, t .fifth .0, t .fifth .1),
 )
@@ -74,14 +59,14 @@ list-template-rule template = (
 
 module _ (template entry : Tuple) (asked : isListTemplate template ≡ true) where
   wide : template .count ≤ length (template .fields)
-  wide = let asks = template-parts template asked in omega (arith, asks .counted, within-fields template 4 offset formal (omega arith) (asks .shift))
+  wide = let asks = shape-parts listTemplateShape template asked in omega (arith, asks .counted, within-fields template 4 offset formal (omega arith) (asks .fifth))
 
   -- a list tuple of its position
   pub list-match : isListTuple entry ≡ true → positionOf template ≡ positionOf entry → matches template entry ≡ true
   list-match listed same =
-      let asks = template-parts template asked in
-      let gives = list-parts entry listed in
-      let long = within-fields entry 4 offset defined (omega arith) (gives .shift) in
+      let asks = shape-parts listTemplateShape template asked in
+      let gives = shape-parts listTupleShape entry listed in
+      let long = within-fields entry 4 offset defined (omega arith) (gives .fifth) in
       matches-rule template entry wide (omega (arith, asks .counted)) .1 (gives .counted ∙ sym (asks .counted), λ i below. each i (omega (arith, asks .counted)))
     where
       fit : (kind state : ℕ) (i : ℕ) → is kind state (field template i) ≡ true → is kind defined (field entry i) ≡ true
@@ -93,23 +78,23 @@ module _ (template entry : Tuple) (asked : isListTemplate template ≡ true) whe
 
       each : (i : ℕ) → i < 5 → FieldMatch (field template i) (field entry i)
       each zero h =
-          let asks = template-parts template asked in
-          let gives = list-parts entry listed in
+          let asks = shape-parts listTemplateShape template asked in
+          let gives = shape-parts listTupleShape entry listed in
           fit word defined 0 (and-eq-true-iff _ _ .0 (asks .named) .0) (and-eq-true-iff _ _ .0 (gives .named) .0)
           (λ d. said word listing (field template 0) (asks .named) ∙ sym (said word listing (field entry 0) (gives .named)))
-      each (suc zero) h = fit count defined 1 (template-parts template asked .position) (list-parts entry listed .position) (λ d. same)
-      each (suc (suc zero)) h = fit count wildcard 2 (template-parts template asked .process) (list-parts entry listed .process) (λ d. absurd (omega arith))
-      each (suc (suc (suc zero))) h = fit count wildcard 3 (template-parts template asked .serial) (list-parts entry listed .serial) (λ d. absurd (omega arith))
-      each (suc (suc (suc (suc zero)))) h = fit offset formal 4 (template-parts template asked .shift) (list-parts entry listed .shift) (λ d. absurd (omega arith))
+      each (suc zero) h = fit count defined 1 (shape-parts listTemplateShape template asked .second) (shape-parts listTupleShape entry listed .second) (λ d. same)
+      each (suc (suc zero)) h = fit count wildcard 2 (shape-parts listTemplateShape template asked .third) (shape-parts listTupleShape entry listed .third) (λ d. absurd (omega arith))
+      each (suc (suc (suc zero))) h = fit count wildcard 3 (shape-parts listTemplateShape template asked .fourth) (shape-parts listTupleShape entry listed .fourth) (λ d. absurd (omega arith))
+      each (suc (suc (suc (suc zero)))) h = fit offset formal 4 (shape-parts listTemplateShape template asked .fifth) (shape-parts listTupleShape entry listed .fifth) (λ d. absurd (omega arith))
       each (suc (suc (suc (suc (suc i))))) h = absurd (omega arith)
 
   -- and no tuple of another
   pub match-list : isListTuple entry ≡ true → matches template entry ≡ true → positionOf template ≡ positionOf entry
   match-list listed h =
-      let asks = template-parts template asked in
-      let gives = list-parts entry listed in
-      let long = within-fields entry 4 offset defined (omega arith) (gives .shift) in
-      matches-rule template entry wide (omega (arith, asks .counted)) .0 h .1 1 (omega (arith, asks .counted)) .value (kind-state count defined (field template 1) (asks .position) .1)
+      let asks = shape-parts listTemplateShape template asked in
+      let gives = shape-parts listTupleShape entry listed in
+      let long = within-fields entry 4 offset defined (omega arith) (gives .fifth) in
+      matches-rule template entry wide (omega (arith, asks .counted)) .0 h .1 1 (omega (arith, asks .counted)) .value (kind-state count defined (field template 1) (asks .second) .1)
 
 -- ---- what is permitted
 

@@ -1,6 +1,6 @@
 -- The calls that a process makes, and which replies fit, in the papers' numbers. Every test is that of a shape, of what may be proposed or decided, and of a set.
 use mathlib.Core.Path.{_≡_, refl, sym, ap, ap₂, _∙_}
-use mathlib.Core.Bool.{true, false≢true, _&&_, and-eq-true-iff}
+use mathlib.Core.Bool.{true, false≢true, and-eq-true-iff}
 use Prim.Native.Nat.{ℕ, _≤_}
 use native.Mathlib.Omega.{arith}
 use lib.Dec.{eqb}
@@ -25,21 +25,21 @@ use Rattle.space.specs.Proposals.{offered, decidable}
 use Rattle.space.specs.Shapes.{proposedCode, inRounds}
 use Rattle.space.proofs.CodeLaws.{offered-small, offered-decidable, bottom-decidable}
 use Rattle.space.proofs.MemberLaws.{within-rule}
-use Rattle.space.proofs.ShapeLaws.{four}
 use Rattle.tuple.specs.declared.field.Tuple.{Tuple}
 use Rattle.tuple.specs.declared.offset.Offset.{Offset}
 use Rattle.tuple.specs.declared.reply.Outcome.{Outcome}
 use Rattle.tuple.specs.declared.reply.Outcome.the-variants as outcome
 use Rattle.tuple.specs.declared.reply.Reply.{Reply}
 use Rattle.tuple.specs.Faults.{isAbsent, tupleFault, isBlank, placeBlank, restFrom, restBlank, isEntry}
-use Rattle.tuple.specs.Fields.{word, count, offset, processSet, defined, decision, largestOf}
+use Rattle.tuple.specs.Fields.{offset, processSet, decision, largestOf}
+use Rattle.tuple.specs.Forms.{decisionShape}
 use Rattle.tuple.specs.Offsets.{bottom, codeOf, offsetOf}
 use Rattle.tuple.specs.ShapeLaws.{proposalOf, decisionOf}
-use Rattle.tuple.specs.Shapes.{field, is, says, hasShape}
+use Rattle.tuple.specs.Shapes.{is}
 use Rattle.tuple.proofs.Blanks.{blank-tuple}
 use Rattle.tuple.proofs.NoFault.{entry-small}
 use Rattle.tuple.proofs.OffsetLaws.{one-to-one}
-use Rattle.tuple.proofs.ShapeLaws.{forms-made}
+use Rattle.tuple.proofs.ShapeLaws.{forms-made, shape-parts}
 
 pub calls-made : CallsMade
 calls-made = record { outs = λ process round code. refl; reads = λ process round q. refl; casts = λ process round code set. refl }
@@ -65,11 +65,9 @@ module _ (config : Config) (round : ℕ) (start : MayStart config) (in-rounds : 
 
 -- a decision's set, as an entry has it
 small-set : (tuple : Tuple) → isEntry tuple ≡ true → isDecision tuple ≡ true → setOf tuple ≤ 32_767
-unfolding hasShape largestOf
+unfolding largestOf
 small-set tuple entry shape =
-    let whole = and-eq-true-iff (eqb (tuple .count) 4 && says word decision (field tuple 0) && is count defined (field tuple 1) && is offset defined (field tuple 2)) _ .0 shape in
-    let counted = four (eqb (tuple .count) 4) (says word decision (field tuple 0)) (is count defined (field tuple 1)) _ (whole .0) .0 in
-    entry-small processSet tuple 3 entry (omega (arith, eqb-true (tuple .count) 4 counted)) (whole .1)
+    let parts = shape-parts decisionShape tuple shape in entry-small processSet tuple 3 entry (omega (arith, parts .counted)) (parts .fourth)
 
 -- ---- one state
 

@@ -21,21 +21,23 @@ use Rattle.policy.specs.Laws.{DecisionCall}
 use Rattle.policy.specs.declared.verdicts.Verdict.the-variants.{Permit}
 use Rattle.policy.specs.Policies.{verdictOn}
 use Rattle.calls.specs.Turns.{last, Turn, applied, turns}
-use Rattle.tuple.specs.Shapes.{field, is, says, hasShape}
+use Rattle.tuple.specs.Shapes.{field, is, says}
 use Rattle.space.specs.Shapes.{roundOf, isProposal}
 use Rattle.space.specs.Spaces.{held}
 use Rattle.calls.proofs.CallSteps.{Puts}
 use Rattle.calls.proofs.CallSteps.Puts.{by-out, by-cas}
-use Rattle.space.proofs.ShapeLaws.{four, within-fields, proposal-parts}
+use Rattle.space.proofs.ShapeLaws.{within-fields}
 use Rattle.tuple.specs.declared.field.Field.{Field}
 use Rattle.tuple.specs.declared.field.Tuple.{Tuple}
 use Rattle.tuple.specs.declared.field.Call.{Call}
 use Rattle.tuple.specs.declared.reply.Outcome.{Outcome}
 use Rattle.tuple.specs.declared.reply.Outcome.the-variants.{Inserted, Held}
 use Rattle.tuple.specs.Faults.{isDefined}
-use Rattle.tuple.specs.Fields.{word, propose, decision, defined, processSet, wildcard, cas, blankField}
+use Rattle.tuple.specs.Fields.{word, propose, decision, defined, cas, blankField}
+use Rattle.tuple.specs.Forms.{proposalShape, decisionTemplateShape}
 use Rattle.tuple.specs.Matching.{fieldMatches, fieldsMatch, matches}
 use Rattle.tuple.specs.Offsets.{offsetOf}
+use Rattle.tuple.proofs.ShapeLaws.{shape-parts}
 
 -- the decision is that of a tuple of the list
 pub record Stands (tuples : List Tuple) (d : Decision) : Type 0 where
@@ -60,13 +62,12 @@ said-word : (value : ℕ) (f : Field) → says word value f ≡ true → (is wor
 said-word value f h = let parts = and-eq-true-iff (is word defined f) _ .0 h in (parts .0, eqb-true _ _ (parts .1))
 
 matched-unproposed : (template tuple : Tuple) → isDecisionTemplate template ≡ true → matches template tuple ≡ true → isProposal tuple ≡ true → ⊥
-unfolding hasShape matches
+unfolding matches
 matched-unproposed template tuple t h p =
-    let places = and-eq-true-iff _ (is processSet wildcard (field template 3)) .0 t .0 in
-    let front = four (eqb (template .count) 4) (says word decision (field template 0)) _ _ places in
-    let counts : template .count ≡ 4 = eqb-true _ _ (front .0) in
-    let asked = said-word decision (field template 0) (front .1) in
-    let given = said-word propose (field tuple 0) (proposal-parts tuple p .1) in
+    let parts = shape-parts decisionTemplateShape template t in
+    let counts = parts .counted in
+    let asked = said-word decision (field template 0) (parts .named) in
+    let given = said-word propose (field tuple 0) (shape-parts proposalShape tuple p .named) in
     let some = within-fields template 0 word defined (omega arith) (asked .0) in
     let sets : isDefined (field template 0) ≡ true = and-eq-true-iff (eqb (field template 0 .kind) word) _ .0 (asked .0) .1 in
     let same = first-value (template .fields) (tuple .fields) some sets (rw counts at (and-eq-true-iff (eqb (tuple .count) (template .count)) _ .0 h .1)) in

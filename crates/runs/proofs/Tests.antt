@@ -12,7 +12,6 @@ use Rattle.runs.specs.Correct.{sameField, sameFields, sameTuple, sameCal
 use Rattle.runs.specs.Decisions.{isDone, proposesIn, hasDoneProposal}
 use Rattle.runs.specs.Laws.{SameCallRule, CorrectRule, DoneProposalRule, OutDoneRule}
 use Rattle.space.specs.Shapes.{processOf, proposedCode, roundOf, isProposal}
-use Rattle.space.proofs.ShapeLaws.{four}
 use Rattle.calls.specs.Turns.{Turn}
 use Rattle.tuple.specs.declared.field.Field.{Field}
 use Rattle.tuple.specs.declared.field.Tuple.{Tuple}
@@ -21,10 +20,12 @@ use Rattle.tuple.specs.declared.offset.Offset.{Offset}
 use Rattle.tuple.specs.declared.reply.Outcome.{Outcome}
 use Rattle.tuple.specs.declared.reply.Outcome.the-variants.{Done, None, Found, Inserted, Held, Refused}
 use Rattle.tuple.specs.Fields.{word, count, offset, defined, propose, out}
+use Rattle.tuple.specs.Forms.{proposalShape}
 use Rattle.tuple.specs.Offsets.{codeOf, offsetOf}
-use Rattle.tuple.specs.Shapes.{field, is, says, hasShape}
+use Rattle.tuple.specs.Shapes.{hasShape}
 use Rattle.tuple.proofs.FieldLaws.{field-is, field-says}
 use Rattle.tuple.proofs.OffsetLaws.{one-to-one}
+use Rattle.tuple.proofs.ShapeLaws.{shape-parts}
 
 -- ---- equal calls
 
@@ -186,20 +187,18 @@ pub out-done-rule : OutDoneRule
 unfolding hasShape
 out-done-rule list round process w = (
   λ p. let entry = p .turn .call .entry in
-      let counts = is count defined (field entry 1) in
-      let parts = and-eq-true-iff (eqb (entry .count) 4 && says word propose (field entry 0) && counts && is count defined (field entry 2)) _ .0 (p .shape) in
-      let head = four (eqb (entry .count) 4) (says word propose (field entry 0)) counts _ (parts .0) in
+      let parts = shape-parts proposalShape entry (p .shape) in
       record {
         turn = p .turn;
         occurs = p .occurs;
         own = p .own;
         code = p .code;
         done = p .done;
-        count = eqb-true _ _ (head .0);
-        first = field-says word propose _ (head .1);
-        second = field-is count defined _ (head .2) round (p .in-round);
-        third = field-is count defined _ (head .3) process (p .by);
-        fourth = field-is offset defined _ (parts .1) (codeOf w) (sym (one-to-one .forth (proposedCode entry)) ∙ ap codeOf (p .of));
+        count = parts .counted;
+        first = field-says word propose _ (parts .named);
+        second = field-is count defined _ (parts .second) round (p .in-round);
+        third = field-is count defined _ (parts .third) process (p .by);
+        fourth = field-is offset defined _ (parts .fourth) (codeOf w) (sym (one-to-one .forth (proposedCode entry)) ∙ ap codeOf (p .of));
       },
   λ o. let value : Field → ℕ = λ f. f .value in
       record {

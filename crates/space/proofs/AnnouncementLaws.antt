@@ -1,7 +1,7 @@
 -- Announcements and the oldest one of a process: one step of a search, and the laws in document 02's words. From the definitions.
 use mathlib.Core.Path.{_≡_, refl, sym, ap, _∙_}
 use mathlib.Core.Logic.{_↔_, ⊎-elim}
-use mathlib.Core.Bool.{true, false, not, and-eq-true-iff}
+use mathlib.Core.Bool.{true, false, and-eq-true-iff}
 use mathlib.Core.List.{List, [], _∷_, List·Memᴰ·not-nil, List·Memᴰ·cases-cons}
 use Prim.Native.Nat.{ℕ, zero, suc, _+_, _≤_, _<_, min}
 use native.Mathlib.Omega.{arith}
@@ -18,10 +18,12 @@ use Rattle.space.proofs.SpaceRules.{stands}
 use Rattle.tuple.specs.declared.field.Field.{Field}
 use Rattle.tuple.specs.declared.field.Tuple.{Tuple}
 use Rattle.tuple.specs.Fields.{word, count, offset, defined, announcing, blankTuple}
+use Rattle.tuple.specs.Forms.{announcementShape}
 use Rattle.tuple.specs.Offsets.{bottom}
-use Rattle.tuple.specs.Shapes.{field, is, says, hasShape}
+use Rattle.tuple.specs.Shapes.{field, hasShape}
 use Rattle.tuple.proofs.FieldLaws.{field-is, field-says}
 use Rattle.tuple.proofs.Lists.{drop-take-step, drop-take-end}
+use Rattle.tuple.proofs.ShapeLaws.{Parts, shape-parts}
 
 -- ---- one step of the search
 
@@ -44,33 +46,22 @@ module _ (process n : ℕ) (l : List Tuple) (i : ℕ) (passed : announcedOf (dro
 
 -- ---- an announcement
 
-pub record Parts (tuple : Tuple) : Type 0 where
-  pub counted : tuple .count ≡ 4
-  pub named : says word announcing (field tuple 0) ≡ true
-  pub process : is count defined (field tuple 1) ≡ true
-  pub serial : is count defined (field tuple 2) ≡ true
-  pub shift : is offset defined (field tuple 3) ≡ true
-  pub some : announcedCode tuple ≡ bottom → ⊥
-
-pub announcement-parts : (tuple : Tuple) → isAnnouncement tuple ≡ true → Parts tuple
-unfolding isAnnouncement hasShape
+pub announcement-parts : (tuple : Tuple) → isAnnouncement tuple ≡ true → Parts announcementShape tuple × (announcedCode tuple ≡ bottom → ⊥)
+unfolding isAnnouncement
 announcement-parts tuple h =
-    let last = and-eq-true-iff _ (not (eqb (field tuple 3 .value) bottom)) .0 h in
-    let shift = and-eq-true-iff _ (is offset defined (field tuple 3)) .0 (last .0) in
-    let front = four (eqb (tuple .count) 4) (says word announcing (field tuple 0)) (is count defined (field tuple 1)) (is count defined (field tuple 2)) (shift .0) in
-    record { counted = eqb-true _ _ (front .0); named = front .1; process = front .2; serial = front .3; shift = shift .1; some = eqb-false _ _ (not-true _ (last .1)) }
+    let parts = and-eq-true-iff (hasShape announcementShape tuple) _ .0 h in (shape-parts announcementShape tuple (parts .0), eqb-false _ _ (not-true _ (parts .1)))
 
 pub announcement-rule : AnnouncementRule
 unfolding isAnnouncement hasShape
 announcement-rule tuple process serial code = (
-  λ h. let parts = announcement-parts tuple (h .0) in
+  λ h. let parts = announcement-parts tuple (h .0) .0 in
       record {
         four = parts .counted;
         first = field-says word announcing (field tuple 0) (parts .named);
-        second = field-is count defined (field tuple 1) (parts .process) process (h .1);
-        third = field-is count defined (field tuple 2) (parts .serial) serial (h .2);
-        fourth = field-is offset defined (field tuple 3) (parts .shift) code (h .3);
-        some = λ none. parts .some (h .3 ∙ none);
+        second = field-is count defined (field tuple 1) (parts .second) process (h .1);
+        third = field-is count defined (field tuple 2) (parts .third) serial (h .2);
+        fourth = field-is offset defined (field tuple 3) (parts .fourth) code (h .3);
+        some = λ none. announcement-parts tuple (h .0) .1 (h .3 ∙ none);
       },
   λ t. let value : (f g : Field) → f ≡ g → f .value ≡ g .value = λ f g e. ap (λ (h : Field). h .value) e in
       let shift : field tuple 3 .value ≡ code = value _ _ (t .fourth) in

@@ -11,30 +11,14 @@ use Rattle.space.specs.declared.list.Wanted.{Wanted}
 use Rattle.space.specs.declared.list.Wanted.the-variants.{Position, Serial}
 use Rattle.space.specs.Laws.{ListTupleRule, FilledRule, ListedRule}
 use Rattle.space.specs.Lists.{listedProcess, isListTuple, isWanted, lists, isThere, isFilled, isListed}
-use Rattle.space.proofs.ShapeLaws.{four}
 use Rattle.tuple.specs.declared.field.Tuple.{Tuple}
 use Rattle.tuple.specs.Fields.{word, count, offset, defined, listing}
-use Rattle.tuple.specs.Forms.{listTuple}
-use Rattle.tuple.specs.Shapes.{field, is, says, hasShape}
+use Rattle.tuple.specs.Forms.{listTuple, listTupleShape}
+use Rattle.tuple.specs.Shapes.{field, hasShape}
 use Rattle.tuple.proofs.FieldLaws.{field-is, field-says}
+use Rattle.tuple.proofs.ShapeLaws.{shape-parts}
 
 -- ---- a list tuple
-
-pub record Parts (tuple : Tuple) : Type 0 where
-  pub counted : tuple .count ≡ 5
-  pub named : says word listing (field tuple 0) ≡ true
-  pub position : is count defined (field tuple 1) ≡ true
-  pub process : is count defined (field tuple 2) ≡ true
-  pub serial : is count defined (field tuple 3) ≡ true
-  pub shift : is offset defined (field tuple 4) ≡ true
-
-pub list-parts : (tuple : Tuple) → isListTuple tuple ≡ true → Parts tuple
-unfolding hasShape
-list-parts tuple h =
-    let last = and-eq-true-iff _ (is offset defined (field tuple 4)) .0 h in
-    let fourth = and-eq-true-iff _ (is count defined (field tuple 3)) .0 (last .0) in
-    let front = four (eqb (tuple .count) 5) (says word listing (field tuple 0)) (is count defined (field tuple 1)) (is count defined (field tuple 2)) (fourth .0) in
-    record { counted = eqb-true _ _ (front .0); named = front .1; position = front .2; process = front .3; serial = fourth .1; shift = last .1 }
 
 -- what is made of the word 3, a position, a process, a serial and a shift is a list tuple
 pub list-tuple : (position process serial code : ℕ) → isListTuple (listTuple position process serial code) ≡ true
@@ -44,14 +28,14 @@ list-tuple position process serial code = refl
 pub list-tuple-rule : ListTupleRule
 unfolding hasShape
 list-tuple-rule tuple = (
-  λ h. let parts = list-parts tuple h in
+  λ h. let parts = shape-parts listTupleShape tuple h in
       record {
         five = parts .counted;
         first = field-says word listing (field tuple 0) (parts .named);
-        second = field-is count defined (field tuple 1) (parts .position) _ refl;
-        third = field-is count defined (field tuple 2) (parts .process) _ refl;
-        fourth = field-is count defined (field tuple 3) (parts .serial) _ refl;
-        fifth = field-is offset defined (field tuple 4) (parts .shift) _ refl;
+        second = field-is count defined (field tuple 1) (parts .second) _ refl;
+        third = field-is count defined (field tuple 2) (parts .third) _ refl;
+        fourth = field-is count defined (field tuple 3) (parts .fourth) _ refl;
+        fifth = field-is offset defined (field tuple 4) (parts .fifth) _ refl;
       },
   λ t. rw (t .five, t .first, t .second, t .third, t .fourth, t .fifth),
 )

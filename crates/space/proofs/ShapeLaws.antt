@@ -12,9 +12,11 @@ use Rattle.tuple.specs.declared.field.Field.{Field}
 use Rattle.tuple.specs.declared.field.Tuple.{Tuple}
 use Rattle.tuple.specs.Bounds.{largestCode}
 use Rattle.tuple.specs.Faults.{isEntry}
-use Rattle.tuple.specs.Fields.{word, count, offset, defined, propose, blankField, largestOf}
-use Rattle.tuple.specs.Shapes.{field, is, says, hasShape}
+use Rattle.tuple.specs.Fields.{offset, blankField, largestOf}
+use Rattle.tuple.specs.Forms.{proposalShape}
+use Rattle.tuple.specs.Shapes.{field, is}
 use Rattle.tuple.proofs.NoFault.{entry-small}
+use Rattle.tuple.proofs.ShapeLaws.{shape-parts}
 
 pub four : (a b c d : Bool) → a && b && c && d ≡ true → (a ≡ true) × (b ≡ true) × (c ≡ true) × (d ≡ true)
 four a b c d h =
@@ -32,17 +34,8 @@ within-fields tuple i kind state some h =
     (λ e. let none : field tuple i .kind ≡ 0 = ap (λ (f : Field). f .kind) (List·getD-eq-default (tuple .fields) blankField {n = i} (ltb-false i _ e)) in
     absurd (omega arith))
 
-pub proposal-parts : (tuple : Tuple) → isProposal tuple ≡ true
-    → (tuple .count ≡ 4) × (says word propose (field tuple 0) ≡ true) × (is offset defined (field tuple 3) ≡ true)
-unfolding hasShape
-proposal-parts tuple h =
-    let counts = is count defined (field tuple 1) in
-    let parts = and-eq-true-iff (eqb (tuple .count) 4 && says word propose (field tuple 0) && counts && is count defined (field tuple 2)) _ .0 h in
-    let head = four (eqb (tuple .count) 4) (says word propose (field tuple 0)) counts _ (parts .0) in
-    (eqb-true (tuple .count) 4 (head .0), head .1, parts .1)
-
 -- ---- the offset of a proposal is at most the largest
 
 pub small-offset : (tuple : Tuple) → isEntry tuple ≡ true → isProposal tuple ≡ true → proposedCode tuple ≤ largestCode
 unfolding largestOf
-small-offset tuple entry proposal = let parts = proposal-parts tuple proposal in entry-small offset tuple 3 entry (omega arith) (parts .2)
+small-offset tuple entry proposal = let parts = shape-parts proposalShape tuple proposal in entry-small offset tuple 3 entry (omega arith) (parts .fourth)

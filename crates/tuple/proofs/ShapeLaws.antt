@@ -17,23 +17,34 @@ use Rattle.tuple.specs.FaultLaws.{ZeroField, ZeroRest}
 use Rattle.tuple.specs.Fields.{word, count, offset, defined, wildcard, formal, announcing, blankField}
 use Rattle.tuple.specs.Forms.{proposalShape, proposalTemplateShape, weakEntryShape, weakTemplateShape, decisionShape, decisionTemplateShape, listTupleShape, listTemplateShape, announcementShape, announcementTemplateShape}
 use Rattle.tuple.specs.ShapeLaws.{placeMakes, ShapeMade, Undefined, TakenOff, FormsMade}
-use Rattle.tuple.specs.Shapes.{noValue, field, is, says, isUndefined, andFills, hasShape, placed}
+use Rattle.tuple.specs.Shapes.{noValue, field, is, says, isUndefined, fills, andFills, hasShape, placed}
 use Rattle.tuple.proofs.FaultRules.{used-rest}
 use Rattle.tuple.proofs.FieldLaws.{kind-state, field-is, field-says, Six, view}
 use Rattle.tuple.proofs.FieldLaws.Six.{six}
 
 -- ---- a tuple that has the shape
 
-passed : {test : Bool} (place : Place) (f : Field) → andFills test place f ≡ true → test ≡ true
-passed place f h = cases (eqb (place .kind) 0) (λ none. rw none at h) (λ some. and-eq-true-iff _ _ .0 (rw some at h) .0)
+-- what the test says, place by place
+pub record Parts (shape : Shape) (tuple : Tuple) : Type 0 where
+  pub counted : tuple .count ≡ shape .count
+  pub named : says word (shape .word) (field tuple 0) ≡ true
+  pub second : is count defined (field tuple 1) ≡ true
+  pub third : andFills true (shape .third) (field tuple 2) ≡ true
+  pub fourth : andFills true (shape .fourth) (field tuple 3) ≡ true
+  pub fifth : andFills true (shape .fifth) (field tuple 4) ≡ true
 
--- it has as many fields
-pub shape-count : (shape : Shape) (tuple : Tuple) → hasShape shape tuple ≡ true → tuple .count ≡ shape .count
+both : {test : Bool} (place : Place) (f : Field) → andFills test place f ≡ true → (test ≡ true) × (andFills true place f ≡ true)
+both place f h = cases (eqb (place .kind) 0) (λ none. (rw none at h, rw none)) (λ some. let parts = and-eq-true-iff _ (fills place f) .0 (rw some at h) in (parts .0, rw some (parts .1)))
+
+pub shape-parts : (shape : Shape) (tuple : Tuple) → hasShape shape tuple ≡ true → Parts shape tuple
 unfolding hasShape
-shape-count shape tuple h =
-    let begun = passed (shape .third) (field tuple 2) (passed (shape .fourth) (field tuple 3) (passed (shape .fifth) (field tuple 4) h)) in
-    let front = and-eq-true-iff _ (is count defined (field tuple 1)) .0 begun .0 in
-    eqb-true _ _ (and-eq-true-iff (eqb (tuple .count) (shape .count)) (says word (shape .word) (field tuple 0)) .0 front .0)
+shape-parts shape tuple h =
+    let four = both (shape .fifth) (field tuple 4) h in
+    let three = both (shape .fourth) (field tuple 3) (four .0) in
+    let two = both (shape .third) (field tuple 2) (three .0) in
+    let begun = and-eq-true-iff _ (is count defined (field tuple 1)) .0 (two .0) in
+    let front = and-eq-true-iff (eqb (tuple .count) (shape .count)) (says word (shape .word) (field tuple 0)) .0 (begun .0) in
+    record { counted = eqb-true _ _ (front .0); named = front .1; second = begun .1; third = two .1; fourth = three .1; fifth = four .1 }
 
 zero-field : {f : Field} → ZeroField f → f ≡ blankField
 zero-field zero = λ j. record { kind = zero .kind j; state = zero .state j; value = zero .value j }
@@ -48,8 +59,8 @@ module _ (n : ℕ) (tuple : Tuple) (counted : tuple .count ≡ n) (zeros : ZeroR
       zeros .undefined i (omega arith) few (λ d. eqb-false _ _ e (sym state ∙ d)) ∙ sym none)
 
   -- at each place stands what is made of it
-  place-made : (test : Bool) → placeMakes n i place ≡ true → andFills test place (field tuple i) ≡ true → field tuple i ≡ placed place (field tuple i .value)
-  place-made test sound h =
+  place-made : placeMakes n i place ≡ true → andFills true place (field tuple i) ≡ true → field tuple i ≡ placed place (field tuple i .value)
+  place-made sound h =
       cases (eqb (place .kind) 0)
       (λ none. cases (ltb i n)
       (λ below. absurd (false≢true (rw (below, none) at sound)))
@@ -60,7 +71,7 @@ module _ (n : ℕ) (tuple : Tuple) (counted : tuple .count ≡ n) (zeros : ZeroR
       λ j. record { kind = (zero .kind ∙ sym kind) j; state = (zero .state ∙ sym state) j; value = (zero .value ∙ sym value) j }))
       (λ some. cases (ltb i n)
       (λ below. let one : eqb (place .state) noValue ≡ false = not-true _ (rw (below, some) at sound) in
-      let head = kind-state (place .kind) (place .state) (field tuple i) (and-eq-true-iff test _ .0 (rw (some, one) at h) .1) in
+      let head = kind-state (place .kind) (place .state) (field tuple i) (rw (some, one) at h) in
       let value = value-made (ltb-true i n below) (head .1) some in
       λ j. record { kind = head .0 j; state = head .1 j; value = value j })
       (λ behind. absurd (false≢true (rw (behind, some) at sound))))
@@ -89,15 +100,12 @@ shape-made shape sound tuple six-places rest =
     let last = and-eq-true-iff _ (placeMakes n 4 (shape .fifth)) .0 sound in
     let next = and-eq-true-iff _ (placeMakes n 3 (shape .fourth)) .0 (last .0) in
     let first = and-eq-true-iff (leb n 5) (placeMakes n 2 (shape .third)) .0 (next .0) in (
-      λ h. let four = passed (shape .fifth) (field tuple 4) h in
-          let three = passed (shape .fourth) (field tuple 3) four in
-          let begun = and-eq-true-iff _ (is count defined (field tuple 1)) .0 (passed (shape .third) (field tuple 2) three) in
-          let front = and-eq-true-iff (eqb (tuple .count) n) (says word (shape .word) (field tuple 0)) .0 (begun .0) in
-          let counted : tuple .count ≡ n = eqb-true _ _ (front .0) in
-          let fields = six-fields (view (tuple .fields) six-places) (field-says word (shape .word) _ (front .1)) (field-is count defined _ (begun .1) _ refl)
-          (place-made n tuple counted zeros 2 (omega arith) (shape .third) _ (first .1) three)
-          (place-made n tuple counted zeros 3 (omega arith) (shape .fourth) _ (next .1) four)
-          (place-made n tuple counted zeros 4 (omega arith) (shape .fifth) _ (last .1) h)
+      λ h. let parts = shape-parts shape tuple h in
+          let counted = parts .counted in
+          let fields = six-fields (view (tuple .fields) six-places) (field-says word (shape .word) _ (parts .named)) (field-is count defined _ (parts .second) _ refl)
+          (place-made n tuple counted zeros 2 (omega arith) (shape .third) (first .1) (parts .third))
+          (place-made n tuple counted zeros 3 (omega arith) (shape .fourth) (next .1) (parts .fourth))
+          (place-made n tuple counted zeros 4 (omega arith) (shape .fifth) (last .1) (parts .fifth))
           (zero-field (zeros .behind 5 (omega (arith, leb-true n 5 (first .0))) (omega arith))) in
           λ j. record { count = counted j; fields = fields j },
       λ e. ap (hasShape shape) e
@@ -120,16 +128,13 @@ unfolding hasShape
 taken-off tuple =
     let third = undefined-rule count (field tuple 2) in
     let fourth = undefined-rule offset (field tuple 3) in (
-      λ h. let last = and-eq-true-iff _ (isUndefined offset (field tuple 3)) .0 h in
-          let before = and-eq-true-iff _ (isUndefined count (field tuple 2)) .0 (last .0) in
-          let begun = and-eq-true-iff _ (is count defined (field tuple 1)) .0 (before .0) in
-          let front = and-eq-true-iff (eqb (tuple .count) 4) (says word announcing (field tuple 0)) .0 (begun .0) in
+      λ h. let parts = shape-parts announcementTemplateShape tuple h in
           record {
-            four = eqb-true _ _ (front .0);
-            first = field-says word announcing (field tuple 0) (front .1);
-            second = field-is count defined (field tuple 1) (begun .1) _ refl;
-            third = third .0 (before .1);
-            fourth = fourth .0 (last .1);
+            four = parts .counted;
+            first = field-says word announcing (field tuple 0) (parts .named);
+            second = field-is count defined (field tuple 1) (parts .second) _ refl;
+            third = third .0 (parts .third);
+            fourth = fourth .0 (parts .fourth);
           },
       λ t. rw (t .four, t .first, t .second, third .1 (t .third), fourth .1 (t .fourth)),
     )

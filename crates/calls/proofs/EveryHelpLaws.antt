@@ -1,12 +1,12 @@
 -- For every process there is a run in which its announcement is helped: it announces, another one fills the positions up to one that prefers it, and lists
 -- the announcement there. And one process alone lists what it announced itself.
 use mathlib.Core.Path.{_≡_, refl, sym, ap, _∙_, subst}
-use mathlib.Core.Logic.{_⊎_, inl, inr, ⊎-elim}
+use mathlib.Core.Logic.{inl, inr, ⊎-elim}
 use Prim.Native.Nat.{ℕ, zero, suc, _+_, _-_, _≤_, _<_}
 use native.Mathlib.Omega.{arith}
-use mathlib.Core.Bool.{true, false, false≢true}
+use mathlib.Core.Bool.{true, false≢true}
 use mathlib.Core.List.{List, [], _∷_, _++_, append-nil, List·Memᴰ, List·Memᴰ·head, List·Memᴰ·tail, List·Memᴰ·not-nil, List·Memᴰ·cases-cons, List·Memᴰ·append-cases, List·Memᴰ·eq-of-singleton, Memᴰ·append-left, Memᴰ·append-right}
-use lib.ListN.{length, getD, length-append}
+use lib.ListN.{length, length-append}
 use lib.Dec.{eqb}
 use borrow.Author.Tests.{eqb-true, eqb-false}
 use borrow.Table.Steps.{cases}
@@ -18,8 +18,8 @@ use Rattle.calls.specs.Lists.{listOf, listAfter, listFor, listCas, annou
 use Rattle.calls.specs.Turns.{firstRefusal, judged, applied, turnsFrom, lastOf, after, last}
 use Rattle.calls.proofs.CallSteps.{Moves}
 use Rattle.calls.proofs.HelpingLaws.{prefers-whole}
-use Rattle.calls.proofs.ListSteps.{listed-mem, mem-listed, list-append, orderly-all, announcement-other, key, key-other, apart-differ, Shared, shared-none, list-keeps}
-use Rattle.calls.proofs.ListingLaws.{list-call, next-inserted, next-space, announce-applied}
+use Rattle.calls.proofs.ListSteps.{listed-mem, mem-listed, list-append, orderly-all, announcement-other, Shared, shared-none}
+use Rattle.calls.proofs.ListingLaws.{list-call, next-inserted, next-space, announce-applied, appended-shared, appended-lawful, oldest-one}
 use Rattle.calls.proofs.RunSteps.{Goes, Run, next, none-lawful, held-run, fresh-space}
 use Rattle.calls.proofs.SumLaws.{after-append}
 use Rattle.policy.specs.Listing.{positions, isListCall, isNew, begins, follows, preferred, owed, isDue, mayList, mayAnnounce, shared}
@@ -27,13 +27,13 @@ use Rattle.policy.specs.Policies.{verdictOn, verdict}
 use Rattle.policy.proofs.AnnouncingLaws.{lists-five, due-rule}
 use Rattle.space.specs.declared.config.Config.{Config}
 use Rattle.space.specs.declared.space.Space.{Space}
-use Rattle.space.specs.Announcements.{isAnnouncement, announces, announcedOf, announcerOf, announcedSerial, announcedCode, Announcing, Oldest}
+use Rattle.space.specs.Announcements.{isAnnouncement, announces, announcedOf, announcerOf, Announcing, Oldest}
 use Rattle.space.specs.Configs.{plainSound, sound, hasProposals, hasList, known}
 use Rattle.space.specs.Lists.{listedProcess, isListTuple, positionOf, serialOf, lists, isThere, isFilled, isListed, Listed}
 use Rattle.space.specs.Spaces.{held, spaceOf, placeSound, placesFrom, bounded, wellFormed, freshOf}
 use Rattle.space.proofs.ConfigLaws.{sound-rule, sound-range}
 use Rattle.space.proofs.ListLaws.{list-tuple}
-use Rattle.space.proofs.SpaceRules.{Lawful, held-of, place, stands}
+use Rattle.space.proofs.SpaceRules.{Lawful, held-of, stands}
 use Rattle.tuple.specs.declared.field.Tuple.{Tuple}
 use Rattle.tuple.specs.declared.field.Call.{Call}
 use Rattle.tuple.specs.declared.reply.Outcome.{Outcome}
@@ -100,21 +100,6 @@ module _ (config : Config) (safe : sound config ≡ true) (five : config .policy
         entries = λ tuple m. absurd (List·Memᴰ·not-nil m);
       }
 
-  -- what a call that is known to append leaves
-  module _ (tuples : List Tuple) (state : State tuples) (call : Call) (left : applied (spaceOf config tuples) call .space ≡ spaceOf config (tuples ++ (call .entry ∷ []))) where
-    abbrev more : List Tuple
-    more = tuples ++ (call .entry ∷ [])
-
-    more-shared : Shared config more
-    more-shared =
-        let step = list-keeps config safe shares tuples (state .shared) call in
-        subst (Shared config) (sym (held-of config (step .next)) ∙ ap held (sym (step .space) ∙ left) ∙ held-of config more) (step .kept)
-
-    more-lawful : Lawful more
-    more-lawful =
-        let run = next {call = call} (record { tuples = tuples; lawful = state .lawful; same = refl }) .run in
-        subst Lawful (sym (held-of config (run .tuples)) ∙ ap held (sym (run .same) ∙ left) ∙ held-of config more) (run .lawful)
-
   -- ---- the next position, which prefers another
 
   module _ (tuples : List Tuple) (state : State tuples) (room : length (listOf tuples) < positions) (free : Announcing tuples (preferred (config .n) (length (listOf tuples) + 1)) → ⊥) where
@@ -137,8 +122,8 @@ module _ (config : Config) (safe : sound config ≡ true) (five : config .policy
     filled-state : State (tuples ++ (entry ∷ []))
     filled-state =
         record {
-          shared = more-shared tuples state (listCas helper at at 1) filled-space;
-          lawful = more-lawful tuples state (listCas helper at at 1) filled-space;
+          shared = appended-shared config safe shares tuples (state .shared) (state .lawful) (listCas helper at at 1) filled-space;
+          lawful = appended-lawful config safe shares tuples (state .shared) (state .lawful) (listCas helper at at 1) filled-space;
           only = λ q a. ⊎-elim
               (λ (old : List·Memᴰ (a .tuple) tuples). state .only q (record { tuple = a .tuple; stands = old; shape = a .shape; by = a .by }))
               (λ (new : List·Memᴰ (a .tuple) (entry ∷ [])).
@@ -199,8 +184,8 @@ module _ (config : Config) (safe : sound config ≡ true) (five : config .policy
     announced-state =
         let left = ap (λ (a : Applied). a .space) announced in
         record {
-          shared = more-shared tuples state (announceOut process 0 1) left;
-          lawful = more-lawful tuples state (announceOut process 0 1) left;
+          shared = appended-shared config safe shares tuples (state .shared) (state .lawful) (announceOut process 0 1) left;
+          lawful = appended-lawful config safe shares tuples (state .shared) (state .lawful) (announceOut process 0 1) left;
           only = λ q a. ⊎-elim
               (λ (old : List·Memᴰ (a .tuple) tuples). state .only q (record { tuple = a .tuple; stands = old; shape = a .shape; by = a .by }))
               (λ (new : List·Memᴰ (a .tuple) (waiting ∷ [])). sym (a .by) ∙ ap announcerOf (List·Memᴰ·eq-of-singleton new))
@@ -220,22 +205,7 @@ module _ (config : Config) (safe : sound config ≡ true) (five : config .policy
 
   module _ (tuples : List Tuple) (state : State tuples) (m : List·Memᴰ waiting tuples) where
     waiting-oldest : Oldest tuples process 0 1
-    waiting-oldest =
-        let at = place tuples m in
-        record {
-          at = at .0;
-          inside = at .1;
-          shape = ap isAnnouncement (at .2) ∙ waiting-shape;
-          by = ap announcerOf (at .2);
-          with-serial = ap announcedSerial (at .2);
-          of = ap announcedCode (at .2);
-          first = λ j below shape by.
-              let other = getD tuples j blankTuple in
-              let keys : key other ≡ key (getD tuples (at .0) blankTuple) =
-              key-other other (announcement-other other shape) ∙ ap (λ (q : ℕ). positions + q) by
-              ∙ sym (ap key (at .2) ∙ key-other waiting (announcement-other waiting waiting-shape)) in
-              omega (arith, apart-differ tuples (state .shared .apart) j (at .0) (omega (arith, at .1)) (at .1) keys);
-        }
+    waiting-oldest = oldest-one (state .shared) waiting m waiting-shape
 
     helped-inserted : (q : ℕ) → q ≡ length (listOf tuples) + 1 → q ≤ positions → preferred (config .n) q ≡ process
         → applied (spaceOf config tuples) (listFor helper q process 0 1) .reply .outcome ≡ Inserted

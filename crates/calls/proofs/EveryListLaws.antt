@@ -20,10 +20,10 @@ use Rattle.calls.specs.Lists.Tells.{finds}
 use Rattle.calls.specs.ReadingLaws.{readAt}
 use Rattle.calls.specs.Turns.{Turn, applied, turnsFrom, turns, lastOf, after, last}
 use Rattle.calls.proofs.CallLaws.{permitted-applied}
-use Rattle.calls.proofs.ListSteps.{Orderly, each-more, announcement-other, Shared, shared-none, list-keeps}
-use Rattle.calls.proofs.ListingLaws.{all-listed, list-found, list-call, next-space}
+use Rattle.calls.proofs.ListSteps.{Orderly, each-more, announcement-other, Shared, shared-none}
+use Rattle.calls.proofs.ListingLaws.{all-listed, list-found, list-call, next-space, appended-shared, appended-lawful}
 use Rattle.calls.proofs.PositionLaws.{read-faultless}
-use Rattle.calls.proofs.RunSteps.{next, none-lawful, fresh-space}
+use Rattle.calls.proofs.RunSteps.{none-lawful, fresh-space}
 use Rattle.calls.proofs.SumLaws.{after-append}
 use Rattle.calls.proofs.Walks.{turns-behind}
 use Rattle.policy.specs.Laws.{ListCall}
@@ -106,14 +106,10 @@ module _ (config : Config) (safe : sound config ≡ true) (shares : hasList conf
       (able .known .0) (able .known .1) (omega (arith, able .known .1)) (omega arith) (able .some) (able .small) unlisted in
       let left = next-space config safe shares tuples (numbered .shared) (numbered .lawful) (pick .process) at (pick .process) at (pick .code) (omega arith) (omega (arith, long)) (omega arith)
       (able .known .0) (able .known .1) (omega (arith, able .known .1)) (omega arith) (able .some) (able .small) unlisted
-      (own-due config tuples call shares list (numbered .only) refl) (omega (arith, long)) in
-      let step = list-keeps config safe shares tuples (numbered .shared) call in
-      let run = next {call = call} (record { tuples = tuples; lawful = numbered .lawful; same = refl }) .run in
-      let stepped : step .next ≡ more = sym (held-of config (step .next)) ∙ ap held (sym (step .space) ∙ left) ∙ held-of config more in
-      let ran : run .tuples ≡ more = sym (held-of config (run .tuples)) ∙ ap held (sym (run .same) ∙ left) ∙ held-of config more in (
+      (own-due config tuples call shares list (numbered .only) refl) (omega (arith, long)) in (
         record {
-          shared = subst (Shared config) stepped (step .kept);
-          lawful = subst Lawful ran (run .lawful);
+          shared = appended-shared config safe shares tuples (numbered .shared) (numbered .lawful) call left;
+          lawful = appended-lawful config safe shares tuples (numbered .shared) (numbered .lawful) call left;
           only = λ tuple m. ⊎-elim (numbered .only tuple)
               (λ (new : List·Memᴰ tuple (entry ∷ [])). ap isListTuple (List·Memᴰ·eq-of-singleton new) ∙ list-tuple at (pick .process) at (pick .code))
               (List·Memᴰ·append-cases tuples m);

@@ -6,7 +6,7 @@ use Prim.Native.Nat.{ℕ, zero, suc, _+_, _≤_, _<_}
 use native.Mathlib.Omega.{arith}
 use mathlib.Core.Bool.{true, false≢true}
 use mathlib.Core.List.{List, [], _∷_, _++_, List·Memᴰ, List·Memᴰ·head, List·Memᴰ·not-nil, List·Memᴰ·cases-cons, List·Memᴰ·append-cases, List·Memᴰ·eq-of-singleton, Memᴰ·append-left, Memᴰ·append-right}
-use lib.ListN.{length, getD, length-append}
+use lib.ListN.{length, length-append}
 use lib.Dec.{eqb}
 use borrow.Author.Tests.{eqb-true, eqb-false}
 use borrow.Table.Steps.{cases}
@@ -15,20 +15,20 @@ use Rattle.calls.specs.AnnouncementLaws.{Waited, EveryWait}
 use Rattle.calls.specs.Lists.{listOf, listAfter, listFor, listCas, announceOut}
 use Rattle.calls.specs.Turns.{applied, turnsFrom, lastOf, after, last}
 use Rattle.calls.proofs.AnnouncementLaws.{own-hands}
-use Rattle.calls.proofs.ListSteps.{mem-listed, list-append, orderly-all, announcement-other, key, key-other, apart-differ, Shared, shared-none, list-keeps}
-use Rattle.calls.proofs.ListingLaws.{list-call, next-space, announce-applied}
-use Rattle.calls.proofs.RunSteps.{next, none-lawful, fresh-space}
+use Rattle.calls.proofs.ListSteps.{mem-listed, list-append, orderly-all, announcement-other, Shared, shared-none}
+use Rattle.calls.proofs.ListingLaws.{list-call, next-space, announce-applied, appended-shared, appended-lawful, oldest-one}
+use Rattle.calls.proofs.RunSteps.{none-lawful, fresh-space}
 use Rattle.policy.specs.Listing.{positions, preferred, isDue}
 use Rattle.policy.proofs.AnnouncingLaws.{lists-five, due-rule}
 use Rattle.space.specs.declared.config.Config.{Config}
 use Rattle.space.specs.declared.space.Space.{Space}
-use Rattle.space.specs.Announcements.{isAnnouncement, announcerOf, announcedSerial, announcedCode, Announcing, Oldest}
+use Rattle.space.specs.Announcements.{isAnnouncement, announcerOf, Announcing, Oldest}
 use Rattle.space.specs.Configs.{sound, hasList}
 use Rattle.space.specs.Lists.{isListTuple, positionOf, serialOf, isListed, Listed}
 use Rattle.space.specs.Spaces.{held, spaceOf}
 use Rattle.space.proofs.ConfigLaws.{sound-range}
 use Rattle.space.proofs.ListLaws.{list-tuple, listed-rule}
-use Rattle.space.proofs.SpaceRules.{Lawful, held-of, place}
+use Rattle.space.proofs.SpaceRules.{Lawful, held-of}
 use Rattle.tuple.specs.declared.field.Tuple.{Tuple}
 use Rattle.tuple.specs.declared.field.Call.{Call}
 use Rattle.tuple.specs.declared.reply.Outcome.the-variants.{Done}
@@ -55,22 +55,6 @@ module _ (config : Config) (safe : sound config ≡ true) (five : config .policy
     stands : List·Memᴰ waiting tuples
     only : (q : ℕ) → Announcing tuples q → q ≡ process
     entries : (tuple : Tuple) → List·Memᴰ tuple tuples → isListTuple tuple ≡ true → (serialOf tuple ≡ 0) ⊎ (serialOf tuple ≡ positionOf tuple)
-
-  -- what a call that is known to append leaves
-  module _ (tuples : List Tuple) (shared : Shared config tuples) (lawful : Lawful tuples) (call : Call)
-      (left : applied (spaceOf config tuples) call .space ≡ spaceOf config (tuples ++ (call .entry ∷ []))) where
-    abbrev more : List Tuple
-    more = tuples ++ (call .entry ∷ [])
-
-    more-shared : Shared config more
-    more-shared =
-        let step = list-keeps config safe shares tuples shared call in
-        subst (Shared config) (sym (held-of config (step .next)) ∙ ap held (sym (step .space) ∙ left) ∙ held-of config more) (step .kept)
-
-    more-lawful : Lawful more
-    more-lawful =
-        let run = next {call = call} (record { tuples = tuples; lawful = lawful; same = refl }) .run in
-        subst Lawful (sym (held-of config (run .tuples)) ∙ ap held (sym (run .same) ∙ left) ∙ held-of config more) (run .lawful)
 
   -- ---- the next position
 
@@ -103,8 +87,8 @@ module _ (config : Config) (safe : sound config ≡ true) (five : config .policy
           by = refl;
           end = tuples ++ (entry ∷ []);
           state = record {
-            shared = more-shared tuples (state .shared) (state .lawful) call space;
-            lawful = more-lawful tuples (state .shared) (state .lawful) call space;
+            shared = appended-shared config safe shares tuples (state .shared) (state .lawful) call space;
+            lawful = appended-lawful config safe shares tuples (state .shared) (state .lawful) call space;
             stands = Memᴰ·append-left (entry ∷ []) (state .stands);
             only = λ q a. ⊎-elim
                 (λ (old : List·Memᴰ (a .tuple) tuples). state .only q (record { tuple = a .tuple; stands = old; shape = a .shape; by = a .by }))
@@ -128,22 +112,7 @@ module _ (config : Config) (safe : sound config ≡ true) (five : config .policy
         ⊎-elim (λ z. omega (arith, z, l .with-serial)) (λ z. omega (arith, z, stood .1, stood .3 .at, l .with-serial)) (state .entries (l .tuple) (l .stands) (l .shape))
 
     waiting-oldest : Oldest tuples process 0 1
-    waiting-oldest =
-        let here = place tuples (state .stands) in
-        record {
-          at = here .0;
-          inside = here .1;
-          shape = ap isAnnouncement (here .2) ∙ waiting-shape;
-          by = ap announcerOf (here .2);
-          with-serial = ap announcedSerial (here .2);
-          of = ap announcedCode (here .2);
-          first = λ j below shape by.
-              let other = getD tuples j blankTuple in
-              let keys : key other ≡ key (getD tuples (here .0) blankTuple) =
-              key-other other (announcement-other other shape) ∙ ap (λ (q : ℕ). positions + q) by
-              ∙ sym (ap key (here .2) ∙ key-other waiting (announcement-other waiting waiting-shape)) in
-              omega (arith, apart-differ tuples (state .shared .apart) j (here .0) (omega (arith, here .1)) (here .1) keys);
-        }
+    waiting-oldest = oldest-one (state .shared) waiting (state .stands) waiting-shape
 
     -- a shift of its own
     own-listing : (Announcing tuples (preferred (config .n) at) → ⊥) ⊎ ((serial : ℕ) × (code : ℕ) × Oldest tuples (preferred (config .n) at) serial code × Listed tuples (preferred (config .n) at) serial) → Next tuples
@@ -201,8 +170,8 @@ module _ (config : Config) (safe : sound config ≡ true) (five : config .policy
   start =
       let left = ap (λ (a : Applied). a .space) announced in
       record {
-        shared = more-shared [] (shared-none config) none-lawful (announceOut process 0 1) left;
-        lawful = more-lawful [] (shared-none config) none-lawful (announceOut process 0 1) left;
+        shared = appended-shared config safe shares [] (shared-none config) none-lawful (announceOut process 0 1) left;
+        lawful = appended-lawful config safe shares [] (shared-none config) none-lawful (announceOut process 0 1) left;
         stands = List·Memᴰ·head refl;
         only = λ q a. sym (a .by) ∙ ap announcerOf (List·Memᴰ·eq-of-singleton (a .stands));
         entries = λ tuple m shape. absurd (false≢true (sym (announcement-other waiting waiting-shape) ∙ ap isListTuple (sym (List·Memᴰ·eq-of-singleton m)) ∙ shape));

@@ -20,8 +20,8 @@ use Rattle.calls.specs.Turns.{applied, turnsFrom, turns, lastOf, after, 
 use Rattle.calls.proofs.CallLaws.{denied-rule, permitted-applied}
 use Rattle.calls.proofs.ObeyedLaws.{obeyed-rules}
 use Rattle.calls.proofs.ChangeLaws.{carried-rules}
-use Rattle.calls.proofs.ListSteps.{listed-mem, mem-listed, Orderly, orderly-few, orderly-all, Kind, announcement-other, key, apart-differ, Shared, shared-none, shared-few, Lists, Grown, list-advance, list-keeps}
-use Rattle.calls.proofs.RunSteps.{held-run, fresh-space, fresh-run, after-run}
+use Rattle.calls.proofs.ListSteps.{listed-mem, mem-listed, Orderly, orderly-few, orderly-all, Kind, announcement-other, key, key-other, apart-differ, Shared, shared-none, shared-few, Lists, Grown, list-advance, list-keeps}
+use Rattle.calls.proofs.RunSteps.{next, held-run, fresh-space, fresh-run, after-run}
 use Rattle.calls.proofs.SumLaws.{after-append}
 use Rattle.calls.proofs.Walks.{kept-after, turns-behind}
 use Rattle.policy.specs.Laws.{ListCall, Helps, Alone}
@@ -32,14 +32,14 @@ use Rattle.policy.proofs.ListingLaws.{list-template, list-match, match-list, ca
 use Rattle.policy.proofs.PolicyLaws.{under-shared}
 use Rattle.space.specs.declared.config.Config.{Config}
 use Rattle.space.specs.declared.space.Space.{Space}
-use Rattle.space.specs.Announcements.{isAnnouncement, announcerOf, Announcing, Oldest}
+use Rattle.space.specs.Announcements.{isAnnouncement, announcerOf, announcedSerial, announcedCode, Announcing, Oldest}
 use Rattle.space.specs.Configs.{sound, hasList}
 use Rattle.space.specs.Lists.{listedProcess, isListTuple, positionOf, serialOf, shiftCode, lists, isThere, isFilled, isListed, Filled, Listed}
 use Rattle.space.specs.Spaces.{held, spaceOf, wellFormed}
 use Rattle.space.proofs.AnnouncementLaws.{announcement-parts, announcement-rule}
 use Rattle.space.proofs.ConfigLaws.{sound-range, has-list-rule}
 use Rattle.space.proofs.ListLaws.{list-tuple}
-use Rattle.space.proofs.SpaceRules.{Lawful, held-of, formed-of, stands}
+use Rattle.space.proofs.SpaceRules.{Lawful, held-of, formed-of, stands, place}
 use Rattle.tuple.specs.declared.fault.Fault.the-variants.{Absent}
 use Rattle.tuple.specs.declared.field.Tuple.{Tuple}
 use Rattle.tuple.specs.declared.field.Call.{Call}
@@ -453,3 +453,39 @@ next-announced config calls process serial code safe five one most small some in
     let end = left config safe (lists-five config five) calls in
     rw (end .space) (ap (λ (a : Applied). a .reply .outcome)
     (announce-applied config safe five (end .tuples) (end .shared) (end .lawful) process serial code one most small some inside (rw (end .holds) at none)))
+
+-- ---- what a call that is known to append leaves
+
+module _ (config : Config) (safe : sound config ≡ true) (shares : hasList config ≡ true) (tuples : List Tuple) (keeps : Shared config tuples) (lawful : Lawful tuples) (call : Call)
+    (appends : applied (spaceOf config tuples) call .space ≡ spaceOf config (tuples ++ (call .entry ∷ []))) where
+  abbrev more : List Tuple
+  more = tuples ++ (call .entry ∷ [])
+
+  pub appended-shared : Shared config more
+  appended-shared =
+      let step = list-keeps config safe shares tuples keeps call in
+      subst (Shared config) (sym (held-of config (step .next)) ∙ ap held (sym (step .space) ∙ appends) ∙ held-of config more) (step .kept)
+
+  pub appended-lawful : Lawful more
+  appended-lawful =
+      let run = next {call = call} (record { tuples = tuples; lawful = lawful; same = refl }) .run in
+      subst Lawful (sym (held-of config (run .tuples)) ∙ ap held (sym (run .same) ∙ appends) ∙ held-of config more) (run .lawful)
+
+-- an announcement that stands is its process's oldest, as there is no other
+pub oldest-one : {config : Config} {tuples : List Tuple} → Shared config tuples → (tuple : Tuple) → List·Memᴰ tuple tuples → isAnnouncement tuple ≡ true
+    → Oldest tuples (announcerOf tuple) (announcedSerial tuple) (announcedCode tuple)
+oldest-one {tuples = tuples} keeps tuple m shape =
+    let at = place tuples m in
+    record {
+      at = at .0;
+      inside = at .1;
+      shape = ap isAnnouncement (at .2) ∙ shape;
+      by = ap announcerOf (at .2);
+      with-serial = ap announcedSerial (at .2);
+      of = ap announcedCode (at .2);
+      first = λ j below other by.
+          let keys : key (getD tuples j blankTuple) ≡ key (getD tuples (at .0) blankTuple) =
+          key-other (getD tuples j blankTuple) (announcement-other (getD tuples j blankTuple) other) ∙ ap (λ (q : ℕ). positions + q) by
+          ∙ sym (ap key (at .2) ∙ key-other tuple (announcement-other tuple shape)) in
+          omega (arith, apart-differ tuples (keeps .apart) j (at .0) (omega (arith, at .1)) (at .1) keys);
+    }

@@ -69,8 +69,8 @@ module _ (call : Call) (off : TakesOff call) (tuple : Tuple) where
 
   taken-own : isAnnouncement tuple ≡ true → matches (call .template) tuple ≡ true → announcerOf tuple ≡ call .process
   taken-own shape h =
-      let gives = announcement-parts tuple shape in
-      let long = within-fields tuple 3 offset defined (omega arith) (gives .shift) in
+      let gives = announcement-parts tuple shape .0 in
+      let long = within-fields tuple 3 offset defined (omega arith) (gives .fourth) in
       let fits = matches-rule (call .template) tuple (omega (arith, off .four, template-wide)) (omega (arith, off .four)) .0 h .1 1 (omega (arith, off .four)) in
       let value : field (call .template) 1 .value ≡ call .process = ap (λ (f : Field). f .value) (off .second) in
       sym (fits .value (ap (λ (f : Field). f .state) (off .second))) ∙ value

@@ -99,7 +99,7 @@ module _ (tuples : List Tuple) (whole : Whole tuples) where
         before = take (o .at) tuples;
         after = drop (suc (o .at)) tuples;
         split = split-at tuples (o .at) (o .inside) ∙ ap (λ (t : Tuple). take (o .at) tuples ++ (t ∷ drop (suc (o .at)) tuples)) same;
-        some = λ none. announcement-parts tuple (o .shape) .some (o .of ∙ none);
+        some = λ none. announcement-parts tuple (o .shape) .1 (o .of ∙ none);
         none = λ s c some m.
             let p = place-before (o .at) tuples m in
             o .first (p .0) (p .1) (subst (λ (t : Tuple). isAnnouncement t ≡ true) (sym (p .2)) (announcement-has process s c some))
@@ -126,7 +126,7 @@ first-oldest tuples whole {process} {serial} {code} f =
           let m = stands (f .before) j below in
           let is : isAnnouncement t ≡ true = subst (λ (u : Tuple). isAnnouncement u ≡ true) (early j below) shape in
           let own : announcerOf t ≡ process = subst (λ (u : Tuple). announcerOf u ≡ process) (early j below) by in
-          f .none (field t 2 .value) (field t 3 .value) (announcement-parts t is .some)
+          f .none (field t 2 .value) (field t 3 .value) (announcement-parts t is .1)
           (subst (λ (u : Tuple). List·Memᴰ u (f .before)) (announcement-one (f .before) parts t process m is own) m);
     })
 
@@ -177,7 +177,7 @@ word-rules tuples whole =
         λ a. let t = a .tuple in (
           field t 2 .value,
           field t 3 .value,
-          announcement-parts t (a .shape) .some,
+          announcement-parts t (a .shape) .1,
           subst (λ (u : Tuple). List·Memᴰ u tuples) (announcement-one tuples whole t process (a .stands) (a .shape) (a .by)) (a .stands),
         ),
         λ m. record { tuple = announcedAs process (m .0) (m .1); stands = m .3; shape = announcement-has process (m .0) (m .1) (m .2); by = refl },

@@ -64,6 +64,4 @@ pub use shape::all_five;
 pub use shape::all_four;
 pub use shape::all_three;
 pub use shape::has_shape;
-pub use shape::is;
 pub use shape::make;
-pub use shape::says;

@@ -11,7 +11,7 @@ use crate::field::WILDCARD;
 use crate::field::WORD;
 
 // The state of a place whose field has no value: any or open.
-pub const UNDEFINED: u32 = 3;
+pub(crate) const UNDEFINED: u32 = 3;
 
 // A place of a shape: the kind and the state of its field. A shape ends before a place of kind 0.
 pub struct Place {
@@ -121,7 +121,7 @@ fn field_of(place: Place, value: u64) -> Field
 }
 
 // Whether a field has this kind and this state.
-pub fn is(field: Field, kind: u32, state: u32) -> bool
+fn is(field: Field, kind: u32, state: u32) -> bool
     ensures { λ r. ⌜ r ≡ is· kind state field ⌝ }
 {
     if field.kind == kind {
@@ -132,7 +132,7 @@ pub fn is(field: Field, kind: u32, state: u32) -> bool
 }
 
 // Whether a field is defined, of this kind, with this value.
-pub fn says(field: Field, kind: u32, value: u64) -> bool
+fn says(field: Field, kind: u32, value: u64) -> bool
     ensures { λ r. ⌜ r ≡ says· kind value field ⌝ }
 {
     if is(field, kind, DEFINED) {

@@ -131,7 +131,8 @@ static int bring_back(const board_space *kept) {
         }
         board_applied applied = board_apply(space, read.call);
         if (applied.reply.outcome != BOARD_OUTCOME_DONE && applied.reply.outcome != BOARD_OUTCOME_INSERTED) {
-            return refused("its calls", applied.reply.refusal);
+            print_reply(applied.reply);
+            return 1;
         }
         space = applied.space;
         at = read.next;

@@ -2,8 +2,8 @@
  * (`rt staticlib board_c`), a static library for x86-64 Linux and for no other target. Header and library must be of the same checkout.
  *
  * Structs cross by value, a slice as its pointer and its length, and a number stands for each case of an enum. Every function has an answer for every
- * number and struct that is passed, and keeps none of them. A pointer must be valid for that many bytes, writable where the function writes, and two
- * slices of one call must not overlap; a pointer beside the length 0 is not read. docs/FIRMWARE.md has the stack that each function needs. */
+ * number and struct that is passed, and keeps none of them. A pointer must be valid for that many bytes, writable where the function writes, and the two
+ * slices of board_script must not overlap; a pointer beside the length 0 is not read. docs/FIRMWARE.md has the stack that each function needs. */
 #ifndef BOARD_H
 #define BOARD_H
 

@@ -35,7 +35,8 @@ StandingWhen =
     → calls ≡ early ++ late
     → List·Memᴰ (announcement process serial code) (held (last config (before ++ (announceOut process serial code ∷ early))))))
 
--- a process and a serial are listed within these positions exactly if one of the list's tuples from there on has them in its third and fourth field
+-- a process and a serial are listed within these positions exactly if the list's tuple at a position behind those filled before, up to the last one, has them
+-- in its third and fourth field
 abbrev pub WithinWhen : Type 0
 WithinWhen =
     (config : Config) (before end : List Call) (last-one process serial : ℕ)

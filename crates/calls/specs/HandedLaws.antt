@@ -1,4 +1,4 @@
--- Boards that no run makes, which may be handed in all the same: what each policy says there, row by row. n is 4 and t is 1; under policy 3 k is 2.
+-- Boards that no run makes, which may be handed in all the same: what policies 2 to 5 say there, row by row. n is 4 and t is 1; under policy 3 k is 2.
 use mathlib.Core.Path.{_≡_}
 use Prim.Native.Nat.{ℕ}
 use mathlib.Core.List.{List, [], _∷_, map}
@@ -30,9 +30,9 @@ decideCas code set = record { process = 4; code = 4; template = decisionTemplate
 
 -- ---- policies 2 and 3
 
--- process 1 has a mark (code 0) in its place of round 0, and 2 and 3 propose 40 (code 81)
+-- process 1 has a mark (code 0) in its place of round 0, 2 and 3 propose 40 (code 81), and 4 proposes 5 (code 11)
 abbrev pub marked : List Tuple
-marked = proposal 0 1 0 ∷ proposal 0 2 81 ∷ proposal 0 3 81 ∷ []
+marked = proposal 0 1 0 ∷ proposal 0 2 81 ∷ proposal 0 3 81 ∷ proposal 0 4 11 ∷ []
 
 -- process 1 has 5 (code 11) there, which is no choice of two, process 2 a mark, and 3 and 4 propose 1 (code 3)
 abbrev pub unchosen : List Tuple
@@ -75,20 +75,22 @@ abbrev pub listedFirst : List Tuple
 listedFirst = listTuple 4 1 7 50 ∷ announcement 1 7 80 ∷ announcement 1 8 81 ∷ []
 
 pub record HandedRows : Type 0 where
-  -- a mark takes its place: 12; it is no proposal: 13 for a set with its process, be it of 40 or of the mark; 2 and 3 bear 40
-  pub mark-stands : saidOn (under 2 0) marked (proposeOut 1 81 ∷ decideCas 81 3 ∷ decideCas 0 7 ∷ decideCas 81 6 ∷ [])
+  -- a mark takes its place: 12; it is no proposal: 13 for a set with its process, of 40, and of the mark where no offset has more than t of the set; 2 and 3
+  -- bear 40
+  pub mark-stands : saidOn (under 2 0) marked (proposeOut 1 81 ∷ decideCas 81 3 ∷ decideCas 0 11 ∷ decideCas 81 6 ∷ [])
       ≡ Refuse (refusal 12) ∷ Refuse (refusal 13) ∷ Refuse (refusal 13) ∷ Permit ∷ []
-  -- both take their places; neither is a proposal; what is no choice is not decided: 7; 3 and 4 bear 1
+  -- both take their places; neither bears 1; what is no choice is not decided: 7; 3 and 4 bear 1
   pub other-stands : saidOn (under 3 2) unchosen (proposeOut 1 1 ∷ proposeOut 2 1 ∷ decideCas 11 3 ∷ decideCas 3 5 ∷ decideCas 3 6 ∷ decideCas 3 12 ∷ [])
       ≡ Refuse (refusal 12) ∷ Refuse (refusal 12) ∷ Refuse (refusal 7) ∷ Refuse (refusal 13) ∷ Refuse (refusal 13) ∷ Permit ∷ []
   pub outside-four : saidOn (under 4 0) outside outsideCalls ≡ outsideSaid
   pub outside-five : saidOn (under 5 0) outside outsideCalls ≡ outsideSaid
-  -- the first may be listed, by any caller, and neither the second nor anything else; a third announcement is 7
+  -- the first may be listed, by another caller, and neither the second nor anything else; a third announcement is 7
   pub two-stand : saidOn (under 5 0) twice (listFor 2 1 1 7 80 ∷ listFor 2 1 1 8 81 ∷ listCas 1 1 8 81 ∷ listCas 2 1 1 81 ∷ announceOut 1 9 81 ∷ [])
       ≡ Permit ∷ Refuse (refusal 7) ∷ Refuse (refusal 7) ∷ Refuse (refusal 7) ∷ Refuse (refusal 7) ∷ []
   -- the one with the mark is none: the other is the oldest; and where it stands alone, its process may announce
   pub mark-first : saidOn (under 5 0) markFirst (listFor 2 1 1 7 80 ∷ listFor 2 1 1 9 0 ∷ announceOut 1 8 81 ∷ []) ≡ Permit ∷ Refuse (refusal 7) ∷ Refuse (refusal 7) ∷ []
   pub mark-alone : saidOn (under 5 0) (announcement 1 9 0 ∷ []) (announceOut 1 8 81 ∷ listCas 2 1 1 81 ∷ []) ≡ Permit ∷ Permit ∷ []
-  -- the oldest is listed, with whatever shift: a caller's own entry may be listed, and neither announcement
+  -- the oldest is listed, with whatever shift: a caller's own entry may be listed, and by another caller neither announcement; the second only by its own
+  -- process, as an entry of its own
   pub listed-stands : saidOn (under 5 0) listedFirst (listCas 2 5 1 81 ∷ listFor 2 5 1 7 80 ∷ listFor 2 5 1 8 81 ∷ listCas 1 5 8 81 ∷ [])
       ≡ Permit ∷ Refuse (refusal 7) ∷ Refuse (refusal 7) ∷ Permit ∷ []

@@ -28,7 +28,7 @@ use Rattle.tuple.specs.declared.field.Tuple.{Tuple}
 use Rattle.tuple.specs.declared.field.Call.{Call}
 use Rattle.tuple.specs.Fields.{out, rdp, inp, cas}
 use Rattle.tuple.specs.Refusals.{refusal}
-use Rattle.tuple.specs.ShapeLaws.{part, TakenOff}
+use Rattle.tuple.specs.ShapeLaws.{part, TakeOffTemplate}
 use Rattle.tuple.proofs.ShapeLaws.{forms-made}
 
 pub preferred-rule : PreferredRule
@@ -84,7 +84,7 @@ take-off-rule config tuples call five e =
             fourth = taken .fourth;
           },
       λ t. let own : announcerOf template ≡ call .process = ap (λ (f : Field). f .value) (t .second) in
-          let taken : TakenOff template = record { four = t .four; first = t .first; second = t .second ∙ ap (part 2 0) (sym own); third = t .third; fourth = t .fourth } in
+          let taken : TakeOffTemplate template = record { four = t .four; first = t .first; second = t .second ∙ ap (part 2 0) (sym own); third = t .third; fourth = t .fourth } in
           rw (eq-eqb (config .policy) 5 five, shape .1 taken, eq-eqb (announcerOf template) (call .process) own),
     )
 

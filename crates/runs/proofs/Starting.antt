@@ -19,7 +19,7 @@ use Rattle.process.proofs.KeptLaws.{started-begun}
 use Rattle.process.proofs.StateLaws.{Same}
 use Rattle.runs.specs.Correct.{Standing, listed, startedBy, isCalls, due}
 use Rattle.runs.specs.Correct.Standing.{idle, busy, stuck}
-use Rattle.runs.specs.Laws.{ListedRule, MayCall, DueRule}
+use Rattle.runs.specs.Laws.{EnteredRule, MayCall, DueRule}
 use Rattle.runs.specs.Laws.MayCall.{begins, goes-on}
 use Rattle.runs.proofs.Tests.{same-call-rule}
 use Rattle.space.specs.declared.config.Config.{Config}
@@ -64,16 +64,16 @@ started-again config q round offset goes =
 
 -- ---- which calls are due
 
-pub listed-rule : ListedRule
+pub entered-rule : EnteredRule
 unfolding listed
-listed-rule round [] = (λ h. absurd (false≢true h), λ m. absurd (List·Memᴰ·not-nil m))
-listed-rule round (one ∷ rest) = (
-  λ h. cases (eqb one round) (λ e. List·Memᴰ·head (sym (eqb-true one round e))) (λ e. List·Memᴰ·tail (listed-rule round rest .0 (rw e at h))),
-  λ m. ⊎-elim (λ (e : round ≡ one). rw (eq-eqb one round (sym e))) (λ later. rw (listed-rule round rest .1 later, or-true)) (List·Memᴰ·cases-cons m),
+entered-rule round [] = (λ h. absurd (false≢true h), λ m. absurd (List·Memᴰ·not-nil m))
+entered-rule round (one ∷ rest) = (
+  λ h. cases (eqb one round) (λ e. List·Memᴰ·head (sym (eqb-true one round e))) (λ e. List·Memᴰ·tail (entered-rule round rest .0 (rw e at h))),
+  λ m. ⊎-elim (λ (e : round ≡ one). rw (eq-eqb one round (sym e))) (λ later. rw (entered-rule round rest .1 later, or-true)) (List·Memᴰ·cases-cons m),
 )
 
 pub unlisted : (round : ℕ) (rounds : List ℕ) → (List·Memᴰ round rounds → ⊥) → listed round rounds ≡ false
-unlisted round rounds never = cases (listed round rounds) (λ e. absurd (never (listed-rule round rounds .0 e))) (λ e. e)
+unlisted round rounds never = cases (listed round rounds) (λ e. absurd (never (entered-rule round rounds .0 e))) (λ e. e)
 
 module _ (config : Config) (q : ℕ) (rounds : List ℕ) where
   due-begins : (call : Call) → due config q rounds idle call ≡ true → MayCall config q rounds call idle
@@ -82,7 +82,7 @@ module _ (config : Config) (q : ℕ) (rounds : List ℕ) where
       let fresh = and-eq-true-iff _ _ .0 h in
       let both = and-eq-true-iff (isCalls (startedBy config q entry .next)) _ .0 (fresh .0) in
       begins (roundOf entry) (offsetOf (proposedCode entry))
-      (λ m. false≢true (sym (not-true _ (fresh .1)) ∙ listed-rule (roundOf entry) rounds .1 m))
+      (λ m. false≢true (sym (not-true _ (fresh .1)) ∙ entered-rule (roundOf entry) rounds .1 m))
       (calls-is _ (both .0))
       (same-call-rule _ _ .0 (both .1))
 

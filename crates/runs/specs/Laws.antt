@@ -101,8 +101,8 @@ AmountRule =
     → (amount test n 1 ≤ m) ↔ ((named : List ℕ) × (length named ≤ m) × ((process : ℕ) → 1 ≤ process → process ≤ n → test process ≡ true → List·Memᴰ process named))
 
 -- a round is begun exactly if it is among those entered
-abbrev pub ListedRule : Type 0
-ListedRule = (round : ℕ) (rounds : List ℕ) → (listed round rounds ≡ true) ↔ List·Memᴰ round rounds
+abbrev pub EnteredRule : Type 0
+EnteredRule = (round : ℕ) (rounds : List ℕ) → (listed round rounds ≡ true) ↔ List·Memᴰ round rounds
 
 -- ---- what a correct process may call, and what becomes of it
 

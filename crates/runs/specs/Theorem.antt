@@ -47,7 +47,7 @@ pub record Demanded (space : Space) (turn : Turn) : Type 0 where
   pub stands : (wellFormed space ≡ true) × Tidy space
   -- the reply and the space left are those that the laws of a call speak of
   pub same : (turn .reply ≡ applied space (turn .call) .reply) × (turn .space ≡ applied space (turn .call) .space)
-  -- each refusal comes exactly when, answers no tuple and leaves the space as it was
+  -- each refusal comes exactly when `RefusedBy` says, answers no tuple and leaves the space as it was
   pub refused : (why : Refusal) → (turn .reply .outcome ≡ Refused why) ↔ RefusedBy space (turn .call) why
   pub unchanged : (why : Refusal) → turn .reply .outcome ≡ Refused why → (turn .reply .tuple ≡ nothing) × (turn .space ≡ space)
   -- a call that is not refused is obeyed: it answers and leaves what its code says

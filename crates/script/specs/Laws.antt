@@ -124,7 +124,7 @@ pub data SetUpStops (s : List ℕ) : ℕ → Type 0 where
   policy-unread : (n a t b r : ℕ) → numberAt s 0 ≡ Value n a → numberAt s a ≡ Value t b → Unread s b r → SetUpStops s r
   k-unread : (n a t b c r : ℕ) → numberAt s 0 ≡ Value n a → numberAt s a ≡ Value t b → numberAt s b ≡ Value 3 c → Unread s c r → SetUpStops s r
 
--- a set-up is refused exactly with its number, and zeros stand beside it
+-- a set-up is refused exactly with the number of the first that can't be read, and zeros stand beside it
 pub record SetUpFault (s : List ℕ) (why : Refusal) : Type 0 where
   pub when : (configOf s .next ≡ Refused why) ↔ SetUpStops s (numberOf why)
   pub blank : configOf s .next ≡ Refused why → configOf s .config ≡ record { n = 0; t = 0; policy = 0; k = 0 }

@@ -11,9 +11,9 @@ use tuple::Tuple;
 use tuple::has_shape;
 use tuple::least;
 
-// What a process has announced.
+// What a process has announced, or what of it is owed.
 pub enum Announced {
-    // The serial and the code of the shift of its oldest announcement, be it listed or not.
+    // A serial, and the code of a shift.
     Shift(u64, u64),
     // Nothing.
     Silent,
@@ -31,7 +31,7 @@ pub fn is_announcement(tuple: Tuple) -> bool
     }
 }
 
-// The oldest announcement of a process.
+// The oldest announcement of a process, be its serial listed or not.
 pub fn oldest_announced(space: Space, process: u64) -> Announced
     ensures { λ r. ⌜ r ≡ announcedOf (held space) process ⌝ }
 {

@@ -28,7 +28,7 @@ pub record OffsetText : Type 0 where
   pub below-zero : (k : ℕ) → offsetText (Hundredths (negsuc k)) ≡ 45 ∷ decimal (natAbs (negsuc k))
   pub mark : offsetText Bottom ≡ 95 ∷ []
 
--- the text of a field: a space (32), then w (119) for a word, c (99) for a count and s (115) for a process set, each with the decimal of its value, and o (111)
+-- the text of a given field: a space (32), then w (119) for a word, c (99) for a count and s (115) for a process set, each with the decimal of its value, and o (111)
 -- for an offset, with that offset's text
 pub record FieldText : Type 0 where
   pub word : (value : ℕ) → fieldText (record { kind = 1; state = 0; value = value }) ≡ 32 ∷ 119 ∷ decimal value

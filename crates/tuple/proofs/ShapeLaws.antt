@@ -16,7 +16,7 @@ use Rattle.tuple.specs.declared.shape.Shape.{Shape}
 use Rattle.tuple.specs.FaultLaws.{ZeroField, ZeroRest}
 use Rattle.tuple.specs.Fields.{word, count, offset, defined, wildcard, formal, announcing, blankField}
 use Rattle.tuple.specs.Forms.{proposalShape, proposalTemplateShape, weakEntryShape, weakTemplateShape, decisionShape, decisionTemplateShape, listTupleShape, listTemplateShape, announcementShape, announcementTemplateShape}
-use Rattle.tuple.specs.ShapeLaws.{placeMakes, ShapeMade, Undefined, TakenOff, FormsMade}
+use Rattle.tuple.specs.ShapeLaws.{placeMakes, ShapeMade, Undefined, TakeOffTemplate, FormsMade, MakersMade}
 use Rattle.tuple.specs.Shapes.{noValue, field, is, says, isUndefined, fills, andFills, hasShape, placed}
 use Rattle.tuple.proofs.FaultRules.{used-rest}
 use Rattle.tuple.proofs.FieldLaws.{kind-state, field-is, field-says, Six, view}
@@ -123,7 +123,7 @@ undefined-rule kind f = (
   λ p. let kinds = eq-eqb (f .kind) kind (p .0) in ⊎-elim (λ any. rw (kinds, eq-eqb (f .state) wildcard any)) (λ unset. rw (kinds, ne-eqb (f .state) wildcard (λ any. omega arith), eq-eqb (f .state) formal unset)) (p .1),
 )
 
-taken-off : (tuple : Tuple) → (hasShape announcementTemplateShape tuple ≡ true) ↔ TakenOff tuple
+taken-off : (tuple : Tuple) → (hasShape announcementTemplateShape tuple ≡ true) ↔ TakeOffTemplate tuple
 unfolding hasShape
 taken-off tuple =
     let third = undefined-rule count (field tuple 2) in
@@ -152,4 +152,18 @@ forms-made =
       list-template = shape-made listTemplateShape refl;
       announcement = shape-made announcementShape refl;
       announcement-template = taken-off;
+    }
+
+pub makers-made : MakersMade
+makers-made =
+    record {
+      proposals = λ round process code. refl;
+      proposal-templates = λ round process. refl;
+      weak-entries = λ round code. refl;
+      weak-templates = λ round. refl;
+      decisions = λ round code set. refl;
+      decision-templates = λ round. refl;
+      list-tuples = λ position process serial code. refl;
+      list-templates = λ position. refl;
+      announcements = λ process serial code. refl;
     }

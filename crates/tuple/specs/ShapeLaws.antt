@@ -1,4 +1,4 @@
--- Documents 01, "Policies", and 02, 2.1, 2.6 and 2.7: what has a shape. Of a tuple of six places whose unused parts are zero, the test of a shape holds
+-- Documents 01, "Policies" and "The procedure of a following seat", and 02, 2.1, 2.6 and 2.7: what has a shape. Of a tuple of six places whose unused parts are zero, the test of a shape holds
 -- exactly for what is made of the shape and the tuple's own values; and the shapes that have a meaning, in the papers' numbers.
 use mathlib.Core.Path.{_≡_}
 use mathlib.Core.Bool.{Bool, true, cond, not, _&&_}
@@ -12,7 +12,7 @@ use Rattle.tuple.specs.declared.field.Tuple.{Tuple}
 use Rattle.tuple.specs.declared.shape.Place.{Place}
 use Rattle.tuple.specs.declared.shape.Shape.{Shape}
 use Rattle.tuple.specs.Faults.{restBlank}
-use Rattle.tuple.specs.Forms.{proposalShape, proposalTemplateShape, weakEntryShape, weakTemplateShape, decisionShape, decisionTemplateShape, listTupleShape, listTemplateShape, announcementShape, announcementTemplateShape}
+use Rattle.tuple.specs.Forms.{proposalShape, proposalTemplateShape, weakEntryShape, weakTemplateShape, decisionShape, decisionTemplateShape, listTupleShape, listTemplateShape, announcementShape, announcementTemplateShape, proposal, proposalTemplate, weakEntry, weakTemplate, decisionEntry, decisionTemplate, listTuple, listTemplate, announcement}
 use Rattle.tuple.specs.Shapes.{noValue, field, hasShape, made}
 
 -- below the count a place has a kind and one state; behind it, it has neither
@@ -62,7 +62,7 @@ abbrev pub Undefined : ℕ → Field → Type 0
 Undefined kind f = (f .kind ≡ kind) × ((f .state ≡ 1) ⊎ (f .state ≡ 2))
 
 -- four fields: the word 4 and a count given, a count and an offset undefined
-pub record TakenOff (tuple : Tuple) : Type 0 where
+pub record TakeOffTemplate (tuple : Tuple) : Type 0 where
   pub four : tuple .count ≡ 4
   pub first : field tuple 0 ≡ part 1 0 4
   pub second : field tuple 1 ≡ part 2 0 (field tuple 1 .value)
@@ -84,4 +84,16 @@ pub record FormsMade : Type 0 where
   pub list-template : Exactly listTemplateShape (λ tuple. begun 5 3 (field tuple 1 .value) (part 2 1 0) (part 2 1 0) (part 3 2 0))
   -- (word 4, count seat, count serial, offset shift), and word 4 and a count given, the other two undefined
   pub announcement : Exactly announcementShape (λ tuple. begun 4 4 (field tuple 1 .value) (part 2 0 (field tuple 2 .value)) (part 3 0 (field tuple 3 .value)) zero)
-  pub announcement-template : (tuple : Tuple) → (hasShape announcementTemplateShape tuple ≡ true) ↔ TakenOff tuple
+  pub announcement-template : (tuple : Tuple) → (hasShape announcementTemplateShape tuple ≡ true) ↔ TakeOffTemplate tuple
+
+-- what each maker gives, place by place
+pub record MakersMade : Type 0 where
+  pub proposals : (round process code : ℕ) → proposal round process code ≡ proposalOf round process code
+  pub proposal-templates : (round process : ℕ) → proposalTemplate round process ≡ begun 4 1 round (part 2 0 process) (part 3 2 0) zero
+  pub weak-entries : (round code : ℕ) → weakEntry round code ≡ begun 3 2 round (part 3 0 code) zero zero
+  pub weak-templates : (round : ℕ) → weakTemplate round ≡ begun 3 2 round (part 3 2 0) zero zero
+  pub decisions : (round code set : ℕ) → decisionEntry round code set ≡ decisionOf round code set
+  pub decision-templates : (round : ℕ) → decisionTemplate round ≡ begun 4 2 round (part 3 2 0) (part 4 1 0) zero
+  pub list-tuples : (position process serial code : ℕ) → listTuple position process serial code ≡ begun 5 3 position (part 2 0 process) (part 2 0 serial) (part 3 0 code)
+  pub list-templates : (position : ℕ) → listTemplate position ≡ begun 5 3 position (part 2 1 0) (part 2 1 0) (part 3 2 0)
+  pub announcements : (process serial code : ℕ) → announcement process serial code ≡ begun 4 4 process (part 2 0 serial) (part 3 0 code) zero

@@ -43,7 +43,7 @@ noValue = 3
 abbrev pub fills : Place → Field → Bool
 fills place f = cond (eqb (place .state) noValue) (isUndefined (place .kind) f) (is (place .kind) (place .state) f)
 
--- a shape ends before a place of kind 0
+-- a place of kind 0 is none, and asks nothing; in the shapes that have a meaning such places stand behind the count
 abbrev pub andFills : Bool → Place → Field → Bool
 andFills test place f = cond (eqb (place .kind) 0) test (test && fills place f)
 

@@ -13,7 +13,7 @@ use crate::field::WORD;
 // The state of a place whose field has no value: any or open.
 pub(crate) const UNDEFINED: u32 = 3;
 
-// A place of a shape: the kind and the state of its field. A shape ends before a place of kind 0.
+// A place of a shape: the kind and the state of its field. A place of kind 0 is none, and asks nothing.
 pub struct Place {
     pub kind: u32,
     pub state: u32,
@@ -47,7 +47,7 @@ pub fn has_shape(tuple: Tuple, shape: Shape) -> bool
     and_fills(four, shape.fifth, fifth)
 }
 
-// Whether a test holds and, if the shape reaches this place, its field is as the place asks.
+// Whether a test holds and, if there is such a place, its field is as the place asks.
 fn and_fills(test: bool, place: Place, field: Field) -> bool
     ensures { λ r. ⌜ r ≡ andFills test place field ⌝ }
 {

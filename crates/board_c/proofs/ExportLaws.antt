@@ -7,7 +7,7 @@ use lib.Dec.{leb}
 use lib.ListN.{length, drop}
 use borrow.Author.Tests.{leb-true, leb-false}
 use borrow.Table.Steps.{cases}
-use Rattle.board_c.specs.Exports.{Bytes, Wrote, Exports}
+use Rattle.board_c.specs.Exports.{Wrote, Exports}
 use Rattle.board_c.specs.Flat.{textNumber, recordedNumber, flatOpened, flatRead, flatStep, opened, readAt}
 use Rattle.board_c.proofs.NumberLaws.{numbers}
 use Rattle.dump.specs.Dumps.{dumpBytes, writtenOf as dumpWritten, leftOf as dumpLeft}
@@ -38,6 +38,7 @@ use Rattle.tuple.specs.declared.offset.Offset.{Offset}
 use Rattle.tuple.specs.declared.refusal.Refusal.{Refusal}
 use Rattle.tuple.specs.Faults.{callFault}
 use Rattle.tuple.specs.Refusals.{numberOf, refusal}
+use Rattle.varint.specs.Reading.{Bytes}
 
 opened-so : (config : Config) (opening : Opening) → freshOf config .opening ≡ opening → opened config ≡ flatOpened (record { opening = opening; space = freshOf config .space })
 opened-so config opening = ap (λ (o : Opening). flatOpened (record { opening = o; space = freshOf config .space }))

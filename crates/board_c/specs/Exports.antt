@@ -2,7 +2,7 @@
 -- a length, 2^32 is added to it. How replies, states and steps are written in numbers is said in `Numbers`.
 use mathlib.Core.Path.{_≡_}
 use mathlib.Core.Bool.{true}
-use mathlib.Core.List.{List, [], _∷_, _++_}
+use mathlib.Core.List.{List, _++_}
 use Prim.Native.Nat.{ℕ, _+_, _≤_, _<_}
 use lib.IntN.{ℤ}
 use lib.ListN.{length, drop}
@@ -26,11 +26,7 @@ use Rattle.tuple.specs.declared.field.Call.{Call}
 use Rattle.tuple.specs.declared.offset.Offset.the-variants.{Bottom, Hundredths}
 use Rattle.tuple.specs.declared.refusal.Refusal.{Refusal}
 use Rattle.tuple.specs.Refusals.{numberOf}
-
--- each element is a byte
-abbrev pub Bytes : List ℕ → Type 0
-Bytes [] = Unit {0}
-Bytes (b ∷ l) = (b < 256) × Bytes l
+use Rattle.varint.specs.Reading.{Bytes}
 
 -- an answer of 2^32 or more leaves the buffer as it was; below, it is how many bytes stand from its first on, and the rest is as it was
 pub record Wrote (answer : ℕ) (bytes before after : List ℕ) : Type 0 where

@@ -1,5 +1,5 @@
 -- Each policy permits exactly what the words of documents 01 and 02 say. From the definitions of policies and the laws of proposals and sets.
-use mathlib.Core.Path.{_≡_, refl, sym, _∙_}
+use mathlib.Core.Path.{_≡_, refl, sym, ap, _∙_}
 use mathlib.Core.Logic.{_↔_, _⊎_, inl, inr, ⊎-elim}
 use mathlib.Core.Bool.{Bool, true, false, false≢true, cond, not, _&&_, and-false, and-eq-true-iff}
 use mathlib.Core.List.{List}
@@ -20,6 +20,7 @@ use Rattle.policy.specs.Policies.{verdictOn, verdict}
 use Rattle.policy.specs.Shapes.{sameRound, isWeakTemplate, isWeakEntry, isDecisionTemplate, isDecision, decidedCode, setOf}
 use Rattle.policy.specs.Verdicts.{demand}
 use Rattle.policy.specs.Weak.{isWeakCall, weak}
+use Rattle.space.specs.Announcements.{announcerOf}
 use Rattle.space.specs.declared.config.Config.{Config}
 use Rattle.space.specs.declared.proposal.Sought.the-variants.{One, Some, Any}
 use Rattle.space.specs.Bounds.{rounds}
@@ -38,6 +39,8 @@ use Rattle.tuple.specs.declared.refusal.Refusal.{Refusal}
 use Rattle.tuple.specs.Fields.{out, rdp, inp, cas}
 use Rattle.tuple.specs.Offsets.{bottom}
 use Rattle.tuple.specs.Refusals.{refusal}
+use Rattle.tuple.specs.Forms.{announcementTemplateShape}
+use Rattle.tuple.specs.Shapes.{hasShape}
 
 -- ---- demands
 
@@ -117,9 +120,11 @@ unfolding verdictOn weak isWeakCall justified shared mayTakeOff
 inp-rule config tuples call some most e =
     let none = ne-eqb (config .policy) 0 (λ z. omega arith) in
     let early = ne-eqb (config .policy) 5 (λ z. omega arith) in
+    let kept : mayTakeOff config call ≡ false = ap
+    (λ (b : Bool). b && hasShape announcementTemplateShape (call .template) && eqb (announcerOf (call .template)) (call .process)) early in
     cases (eqb (config .policy) 1) (λ one. rw (none, one, e))
     (λ other. cases (hasProposals config) (λ rests. rw (none, other, rests, e))
-    (λ more. cases (hasList config) (λ lists. rw (none, other, more, lists, e, early)) (λ last. rw (none, other, more, last))))
+    (λ more. cases (hasList config) (λ lists. rw (none, other, more, lists, e, kept)) (λ last. rw (none, other, more, last))))
 
 pub justified-only : JustifiedOnly
 unfolding justified

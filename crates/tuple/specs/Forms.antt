@@ -1,4 +1,5 @@
--- Documents 01, "Policies" and "The procedure of a following seat", and 02, 2.6 and 2.7: the shapes of the tuples that have a meaning and of the templates for them, and what is made of each.
+-- Documents 01, "Policies" and "The procedure of a following seat", and 02, 2.6 and 2.7: the shapes of the tuples that have a meaning and of the templates for
+-- them, and what is made of each.
 use Prim.Native.Nat.{ℕ}
 use Rattle.tuple.specs.declared.field.Tuple.{Tuple}
 use Rattle.tuple.specs.declared.shape.Place.{Place}

@@ -116,13 +116,13 @@ Moved tuples call does = Moves tuples call (does .reply .outcome) (does .change)
 
 module _ (tuples : List Tuple) (call : Call) where
   -- by a test that says whether there is room
-  append-by : {how : Outcome} (room : Bool) → (room ≡ true → length tuples < 128) → (room ≡ false → 128 ≤ length tuples) → Puts tuples call how
+  append-by : {how : Outcome} (room : Bool) → (room ≡ true → length tuples < capacity) → (room ≡ false → capacity ≤ length tuples) → Puts tuples call how
       → Moved tuples call (cond room (effects.answered how blankTuple Append) (effects.refuses (refusal 8)))
   append-by true some none p = adds p (some refl)
   append-by false some none p = full p (none refl)
 
   append-moves : {how : Outcome} → Puts tuples call how → Moved tuples call (effects.appends how (length tuples))
-  append-moves p = append-by _ (ltb-true (length tuples) 128) (ltb-false (length tuples) 128) p
+  append-moves p = append-by _ (ltb-true (length tuples) capacity) (ltb-false (length tuples) capacity) p
 
   rdp-moves : call .code ≡ rdp → (found : Found) → Moved tuples call (effects.rdpEffect tuples found)
   rdp-moves e (At i) = reads e

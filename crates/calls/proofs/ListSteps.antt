@@ -27,6 +27,7 @@ use Rattle.policy.specs.Policies.{verdictOn}
 use Rattle.policy.proofs.AnnouncingLaws.{announce-rule, take-off-rule}
 use Rattle.policy.proofs.ListingLaws.{list-match, list-rule, cas-permitted}
 use Rattle.space.specs.declared.config.Config.{Config}
+use Rattle.space.specs.Bounds.{processes}
 use Rattle.space.specs.Announcements.{isAnnouncement, announcerOf}
 use Rattle.space.specs.Configs.{sound, hasList}
 use Rattle.space.specs.Lists.{listedProcess, isListTuple, positionOf, serialOf, shiftCode}
@@ -256,7 +257,7 @@ pub shared-none : (config : Config) → Shared config []
 unfolding Apart listOf
 shared-none config = record { list = orderly-none; each = λ tuple m. absurd (List·Memᴰ·not-nil m); apart = tt }
 
-kind-key : {config : Config} {tuple : Tuple} → config .n ≤ 15 → Kind config tuple → (1 ≤ key tuple) × (key tuple ≤ 127)
+kind-key : {config : Config} {tuple : Tuple} → config .n ≤ processes → Kind config tuple → (1 ≤ key tuple) × (key tuple ≤ positions + processes)
 unfolding key
 kind-key few (in-list shape first most) = rw shape (first, omega arith)
 kind-key {tuple = tuple} few (waits five shape some most) = rw (announcement-other tuple shape) (omega arith, omega arith)
@@ -264,9 +265,9 @@ kind-key {tuple = tuple} few (waits five shape some most) = rw (announcement-oth
 -- there is room for one more
 pub shared-few : {config : Config} {tuples : List Tuple} → sound config ≡ true → Shared config tuples → length tuples < capacity
 shared-few {config} {tuples} safe shared =
-    let small : (i : ℕ) → i < length tuples → (1 ≤ key (getD tuples i blankTuple)) × (key (getD tuples i blankTuple) ≤ 127) =
+    let small : (i : ℕ) → i < length tuples → (1 ≤ key (getD tuples i blankTuple)) × (key (getD tuples i blankTuple) ≤ positions + processes) =
     λ i h. kind-key (sound-range config safe .1) (shared .each _ (stands tuples i h)) in
-    let many = at-most (λ (i : ℕ). key (getD tuples i blankTuple) - 1) 127 (length tuples) (λ i h. omega (arith, small i h))
+    let many = at-most (λ (i : ℕ). key (getD tuples i blankTuple) - 1) (positions + processes) (length tuples) (λ i h. omega (arith, small i h))
     (λ i j a b same. apart-differ tuples (shared .apart) i j a b (omega (arith, same, small i a, small j b))) in
     omega arith
 

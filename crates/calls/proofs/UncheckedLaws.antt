@@ -24,6 +24,7 @@ use Rattle.space.specs.Spaces.{held, spaceOf, bounded, wellFormed, freshOf, Ent
 use Rattle.space.proofs.SpaceRules.{held-of, formed-of}
 use Rattle.tuple.specs.declared.field.Tuple.{Tuple}
 use Rattle.tuple.specs.declared.field.Call.{Call}
+use Rattle.tuple.specs.Bounds.{capacity}
 use Rattle.tuple.specs.Faults.{callFault}
 use Rattle.tuple.specs.Refusals.{refusal}
 
@@ -60,8 +61,8 @@ unchecked config calls =
 -- what is looked at
 abbrev judgedOn : Config → ℕ → List Tuple → Call → Effect
 judgedOn config count tuples call =
-    judgedBy tuples call (demand (sound config && leb count 128) (refusal 1)
-    (behindFault (callFault call) (demand (known config (call .process)) (refusal 6) (demand (sound config && leb count 128) (refusal 1) (verdictOn config tuples call)))))
+    judgedBy tuples call (demand (sound config && leb count capacity) (refusal 1)
+    (behindFault (callFault call) (demand (known config (call .process)) (refusal 6) (demand (sound config && leb count capacity) (refusal 1) (verdictOn config tuples call)))))
 
 judged-on : (space : Space) (call : Call) → judged space call ≡ judgedOn (space .config) (space .count) (held space) call
 unfolding judged firstRefusal verdict bounded
@@ -80,7 +81,7 @@ unfolding judged bounded
 judged-rules space call =
     record {
       unsound = λ e. rw e;
-      above = λ above. rw (lt-leb (space .count) 128 above, and-false);
+      above = λ above. rw (lt-leb (space .count) capacity above, and-false);
       within = λ safe few places entries.
           let counted : length (held space) ≡ space .count = simp length-take (omega (arith, few, places)) in
           let same = spaceOf (space .config) (held space) in

@@ -8,7 +8,7 @@ use mathlib.Core.List.{List, [], _∷_, map, List·Memᴰ, List·Memᴰ·head, L
 use lib.ListN.{length, replicate, length-append, length-map}
 use borrow.Table.Steps.{cases}
 use Rattle.dump.specs.Appending.{callOf, outBy, processOne}
-use Rattle.dump.specs.Dumps.{dumpCalls, dumpBytes, isReached, writtenOf}
+use Rattle.dump.specs.Dumps.{dumpCalls, dumpBytes, dumpMost, isReached, writtenOf}
 use Rattle.dump.specs.Laws.{LengthMost, AlwaysRoom, ListLengthMost, Wide, LengthAttained}
 use Rattle.dump.proofs.AnswerLaws.{unreached-answer, whole-answer, fits}
 use Rattle.dump.proofs.LengthLaws.{set-up-three, width-step, value-length, next, none-left, out-length}
@@ -26,7 +26,7 @@ use Rattle.space.specs.Spaces.{spaceOf}
 use Rattle.space.proofs.SpaceRules.{Lawful, held-of, formed-of}
 use Rattle.tuple.specs.declared.field.Tuple.{Tuple}
 use Rattle.tuple.specs.declared.field.Call.{Call}
-use Rattle.tuple.specs.Bounds.{places, largestCount}
+use Rattle.tuple.specs.Bounds.{places, capacity, largestCount}
 use Rattle.tuple.specs.Faults.{knownHead, fieldFault, fieldsFault, tupleFault, placeBlank, restFrom, restBlank, isEntry}
 use Rattle.tuple.specs.Fields.{count, defined, largestOf}
 use Rattle.tuple.specs.Shapes.{field, is}
@@ -110,7 +110,7 @@ records-length each (call ∷ calls) same =
     let later = records-length each calls (λ other m. same other (List·Memᴰ·tail m)) in
     omega (arith, length-append (callBytes call) (recordsBytes calls), mul-suc each (length calls))
 
-module _ (config : Config) (tuples : List Tuple) (safe : sound config ≡ true) (bare : config .policy ≡ 0) (all : length tuples ≡ 128)
+module _ (config : Config) (tuples : List Tuple) (safe : sound config ≡ true) (bare : config .policy ≡ 0) (all : length tuples ≡ capacity)
     (wide : (tuple : Tuple) → List·Memᴰ tuple tuples → (isEntry tuple ≡ true) × (length (tuple .fields) ≡ places) × Wide tuple) where
   lawful : Lawful tuples
   lawful = record { few = omega arith; entries = λ tuple m. wide tuple m .0 }
@@ -121,7 +121,7 @@ module _ (config : Config) (tuples : List Tuple) (safe : sound config ≡ true) 
       let tuple = wide (of .0) (of .1) in
       rw (of .2, call-bare config (of .0) bare) (wide-record (of .0) (tuple .0) (tuple .1) (tuple .2))
 
-  full-length : length (dumpBytes (spaceOf config tuples)) ≡ 4_995
+  full-length : length (dumpBytes (spaceOf config tuples)) ≡ dumpMost
   unfolding dumpBytes dumpCalls
   full-length =
       let calls = map (callOf config) tuples in
@@ -129,7 +129,7 @@ module _ (config : Config) (tuples : List Tuple) (safe : sound config ≡ true) 
       let records = records-length 39 calls calls-length in
       rw (held-of config tuples) (length-append (setUpBytes config) (recordsBytes calls) ∙ omega (arith, length-map tuples (callOf config)))
 
-  attained : (room : ℕ) → 4_995 ≤ room → writtenOf (spaceOf config tuples) room ≡ Length 4_995
+  attained : (room : ℕ) → dumpMost ≤ room → writtenOf (spaceOf config tuples) room ≡ Length dumpMost
   attained room enough =
       whole-answer (spaceOf config tuples) room (formed-of config tuples safe lawful) (λ five. omega arith) (bare-reached config safe (λ five. omega arith) bare tuples lawful) (omega (arith, full-length))
       ∙ ap Length full-length

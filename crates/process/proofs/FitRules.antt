@@ -30,6 +30,7 @@ use Rattle.tuple.specs.declared.offset.Offset.{Offset}
 use Rattle.tuple.specs.declared.reply.Outcome.{Outcome}
 use Rattle.tuple.specs.declared.reply.Outcome.the-variants as outcome
 use Rattle.tuple.specs.declared.reply.Reply.{Reply}
+use Rattle.tuple.specs.Bounds.{largestSet}
 use Rattle.tuple.specs.Faults.{isAbsent, tupleFault, isBlank, placeBlank, restFrom, restBlank, isEntry}
 use Rattle.tuple.specs.Fields.{offset, processSet, decision, largestOf}
 use Rattle.tuple.specs.Forms.{decisionShape}
@@ -64,7 +65,7 @@ module _ (config : Config) (round : ℕ) (start : MayStart config) (in-rounds : 
   decides offset (as-bottom two is) = ap (λ (o : Offset). decidable config (codeOf o)) is ∙ bottom-decidable config two
 
 -- a decision's set, as an entry has it
-small-set : (tuple : Tuple) → isEntry tuple ≡ true → isDecision tuple ≡ true → setOf tuple ≤ 32_767
+small-set : (tuple : Tuple) → isEntry tuple ≡ true → isDecision tuple ≡ true → setOf tuple ≤ largestSet
 unfolding largestOf
 small-set tuple entry shape =
     let parts = shape-parts decisionShape tuple shape in entry-small processSet tuple 3 entry (omega (arith, parts .counted)) (parts .fourth)

@@ -16,6 +16,7 @@ use Rattle.record.specs.FirstFault.Past.{none, more}
 use Rattle.record.specs.FirstFault.TupleStops.{count-unread, miscounted, at-field}
 use Rattle.record.specs.FirstFault.CallStops.{process-unread, code-unread, unknown-code, in-template, in-entry-of-out, in-entry-of-cas}
 use Rattle.record.specs.Reading.{place, numberStep, readNumber, valueAt, fieldAt, fieldsAt, tupleAt, partAt, partsAt, isCode, bodyAt, callAt}
+use Rattle.tuple.specs.Bounds.{largestWord, largestCode, largestSet}
 use Rattle.tuple.specs.Faults.{usesTemplate, usesEntry}
 use Rattle.tuple.specs.Fields.{largestOf, blankField, blankTuple, blankCall}
 use Rattle.tuple.specs.Refusals.{refusal}
@@ -33,9 +34,9 @@ unknown code = outside 1 code 4
 
 beyond : (kind value : ℕ) → BeyondKind kind value → leb value (largestOf kind) ≡ false
 unfolding largestOf
-beyond kind value (word v h) = lt-leb value 255 h
-beyond kind value (offset v h) = lt-leb value 200_001 h
-beyond kind value (set v h) = lt-leb value 32_767 h
+beyond kind value (word v h) = lt-leb value largestWord h
+beyond kind value (offset v h) = lt-leb value largestCode h
+beyond kind value (set v h) = lt-leb value largestSet h
 
 module _ (s : List ℕ) where
   -- ---- a number

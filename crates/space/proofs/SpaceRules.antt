@@ -93,7 +93,7 @@ held-of config tuples = take-append-seam tuples (replicate (capacity - length tu
 pub formed-of : (config : Config) (tuples : List Tuple) → sound config ≡ true → Lawful tuples → wellFormed (spaceOf config tuples) ≡ true
 unfolding wellFormed bounded
 formed-of config tuples s lawful =
-    let within : sound config && leb (length tuples) 128 ≡ true = and-eq-true-iff _ _ .1 (s, le-leb (length tuples) 128 (lawful .few)) in
+    let within : sound config && leb (length tuples) capacity ≡ true = and-eq-true-iff _ _ .1 (s, le-leb (length tuples) capacity (lawful .few)) in
     and-eq-true-iff _ _ .1 (within, places-sound (capacity - length tuples) tuples (lawful .entries))
 
 module _ (space : Space) (formed : wellFormed space ≡ true) where

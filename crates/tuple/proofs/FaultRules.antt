@@ -16,7 +16,7 @@ use Rattle.tuple.specs.declared.field.Field.{Field}
 use Rattle.tuple.specs.declared.field.Tuple.{Tuple}
 use Rattle.tuple.specs.declared.field.Call.{Call}
 use Rattle.tuple.specs.declared.refusal.Refusal.{Refusal}
-use Rattle.tuple.specs.Bounds.{places}
+use Rattle.tuple.specs.Bounds.{places, largestWord, largestCount, largestCode, largestSet}
 use Rattle.tuple.specs.Fields.{out, cas, largestOf, blankField}
 use Rattle.tuple.specs.Faults.{unless, first, knownHead, isDefined, fieldFault, fieldsFault, tupleFault, partFault, usesTemplate, usesEntry, usedFault, isBlank, placeBlank, restFrom, restBlank, callFault, isAbsent, isEntry}
 use Rattle.tuple.specs.FaultLaws.{Headed, Within, SoundField, FieldRefused, Counted, SoundTuple, TupleRefused, ZeroField, ZeroRest, ZeroTuple, KnownCode, HasTemplate, HasEntry, SoundParts, ZeroParts, SoundCall, CallRefused, FaultRule, FaultRules, EntryRules}
@@ -68,8 +68,8 @@ head-rule f = (
   λ h. rw (le-leb 1 (f .kind) (h .kind .0), le-leb (f .kind) 4 (h .kind .1), le-leb (f .state) 2 (h .state)),
 )
 
-small-kind : (kind value : ℕ) → 1 ≤ kind → kind ≤ 4 → (kind ≡ 1 → value ≤ 255) → (kind ≡ 2 → value ≤ 4_294_967_295) → (kind ≡ 3 → value ≤ 200_001)
-    → (kind ≡ 4 → value ≤ 32_767) → value ≤ largestOf kind
+small-kind : (kind value : ℕ) → 1 ≤ kind → kind ≤ 4 → (kind ≡ 1 → value ≤ largestWord) → (kind ≡ 2 → value ≤ largestCount)
+    → (kind ≡ 3 → value ≤ largestCode) → (kind ≡ 4 → value ≤ largestSet) → value ≤ largestOf kind
 unfolding largestOf
 small-kind zero value low high w c o s = absurd (omega arith)
 small-kind (suc zero) value low high w c o s = w refl

@@ -3,7 +3,7 @@ use mathlib.Core.Path.{_≡_, refl, ap, _∙_}
 use Prim.Native.Nat.{ℕ, zero, suc, _-_, _/_, _%_, _^_, _≤_, _<_, _+_, _*_}
 use native.Mathlib.Nat.{pow-succ', one-le-pow}
 use native.Mathlib.Omega.{arith}
-use mathlib.Core.Bool.{Bool, true, false, cond}
+use mathlib.Core.Bool.{Bool, true, false}
 use mathlib.Core.List.{List, [], _∷_, _++_}
 use lib.ListN.{length, getD, length-append}
 use lib.Dec.{ltb}
@@ -19,7 +19,7 @@ glyph-digit : (n : ℕ) → glyph (n % 10) ≡ digit (n % 10)
 glyph-digit n = rw (lt-ltb (n % 10) 10 (omega arith))
 
 -- k is the number of digits before the last
-digits-from : (k most n : ℕ) → k ≤ most → n < 10 ^ suc k → (1 ≤ k → 10 ^ k ≤ n) → digits 10 (suc k) n ≡ decimalFrom most n
+digits-from : (k most n : ℕ) → k ≤ most → n < 10 ^ suc k → (1 ≤ k → 10 ^ k ≤ n) → digits 10 (suc k) n ≡ decimalFrom most (ltb n 10) n
 unfolding decimalFrom
 digits-from zero zero n few high low = rw (glyph-digit n)
 digits-from zero (suc most) n few high low = rw (lt-ltb n 10 (omega arith), glyph-digit n)
@@ -47,7 +47,7 @@ fewest-decimal n (suc k) fewest =
 
 -- ---- how many
 
-digits-most : (k most n : ℕ) → n < 10 ^ suc k → length (decimalFrom most n) ≤ suc k
+digits-most : (k most n : ℕ) → n < 10 ^ suc k → length (decimalFrom most (ltb n 10) n) ≤ suc k
 unfolding decimalFrom
 digits-most k zero n high = omega arith
 digits-most zero (suc most) n high = rw (lt-ltb n 10 (omega arith)) (omega arith)
@@ -67,32 +67,30 @@ digits-snoc : (l : List ℕ) (n : ℕ) → AllDigits l → AllDigits (l ++ (digi
 digits-snoc [] n h = (omega arith, omega arith, tt)
 digits-snoc (d ∷ l) n h = (h .0, h .1, digits-snoc l n (h .2))
 
-front-all : (small : Bool) (l : List ℕ) → AllDigits l → AllDigits (cond small [] l)
-front-all true l h = tt
-front-all false l h = h
-
-digits-all : (most n : ℕ) → AllDigits (decimalFrom most n)
+digits-all : (most : ℕ) (small : Bool) (n : ℕ) → AllDigits (decimalFrom most small n)
 unfolding decimalFrom
-digits-all zero n = digits-snoc [] n tt
-digits-all (suc most) n = digits-snoc (cond (ltb n 10) [] (decimalFrom most (n / 10))) n (front-all (ltb n 10) (decimalFrom most (n / 10)) (digits-all most (n / 10)))
+digits-all zero small n = digits-snoc [] n tt
+digits-all (suc most) true n = digits-snoc [] n tt
+digits-all (suc most) false n = digits-snoc (decimalFrom most (ltb (n / 10) 10) (n / 10)) n (digits-all most (ltb (n / 10) 10) (n / 10))
 
 pub decimal-all : (n : ℕ) → AllDigits (decimal n)
 unfolding decimal
-decimal-all n = digits-all n n
+decimal-all n = digits-all n (ltb n 10) n
 
 -- the first is one
 snoc-first : (l : List ℕ) (n : ℕ) → AllDigits l → 48 ≤ getD (l ++ (digit (n % 10) ∷ [])) 0 0
 snoc-first [] n h = omega arith
 snoc-first (d ∷ l) n h = h .0
 
-digits-first : (most n : ℕ) → 48 ≤ getD (decimalFrom most n) 0 0
+digits-first : (most : ℕ) (small : Bool) (n : ℕ) → 48 ≤ getD (decimalFrom most small n) 0 0
 unfolding decimalFrom
-digits-first zero n = snoc-first [] n tt
-digits-first (suc most) n = snoc-first (cond (ltb n 10) [] (decimalFrom most (n / 10))) n (front-all (ltb n 10) (decimalFrom most (n / 10)) (digits-all most (n / 10)))
+digits-first zero small n = snoc-first [] n tt
+digits-first (suc most) true n = snoc-first [] n tt
+digits-first (suc most) false n = snoc-first (decimalFrom most (ltb (n / 10) 10) (n / 10)) n (digits-all most (ltb (n / 10) 10) (n / 10))
 
 pub decimal-first : (n : ℕ) → 48 ≤ getD (decimal n) 0 0
 unfolding decimal
-decimal-first n = digits-first n n
+decimal-first n = digits-first n (ltb n 10) n
 
 -- ---- the number that they say
 
@@ -101,13 +99,13 @@ unfolding valueFrom
 value-snoc [] v d = refl
 value-snoc (c ∷ l) v d = value-snoc l (10 * v + (c - 48)) d
 
-digits-value : (most n : ℕ) → n ≤ most → valueFrom 0 (decimalFrom most n) ≡ n
+digits-value : (most n : ℕ) → n ≤ most → valueFrom 0 (decimalFrom most (ltb n 10) n) ≡ n
 unfolding decimalFrom valueFrom
 digits-value zero n few = omega arith
 digits-value (suc most) n few =
     cases (ltb n 10)
     (λ e. rw e (omega (arith, ltb-true n 10 e)))
-    (λ e. rw e (value-snoc (decimalFrom most (n / 10)) 0 (digit (n % 10)) ∙ ap (λ (v : ℕ). 10 * v + (digit (n % 10) - 48)) (digits-value most (n / 10) (omega (arith, ltb-false n 10 e))) ∙ whole n))
+    (λ e. rw e (value-snoc (decimalFrom most (ltb (n / 10) 10) (n / 10)) 0 (digit (n % 10)) ∙ ap (λ (v : ℕ). 10 * v + (digit (n % 10) - 48)) (digits-value most (n / 10) (omega (arith, ltb-false n 10 e))) ∙ whole n))
   where
     whole : (n : ℕ) → 10 * (n / 10) + (digit (n % 10) - 48) ≡ n
     whole n = omega arith
@@ -122,13 +120,13 @@ keeps-first : (l : List ℕ) (d : ℕ) → 49 ≤ getD l 0 0 → 49 ≤ getD (l 
 keeps-first [] d h = absurd (omega arith)
 keeps-first (c ∷ l) d h = h
 
-digits-lead : (most n : ℕ) → n ≤ most → 1 ≤ n → 49 ≤ getD (decimalFrom most n) 0 0
+digits-lead : (most n : ℕ) → n ≤ most → 1 ≤ n → 49 ≤ getD (decimalFrom most (ltb n 10) n) 0 0
 unfolding decimalFrom
 digits-lead zero n few some = absurd (omega arith)
 digits-lead (suc most) n few some =
     cases (ltb n 10)
     (λ e. rw e (omega (arith, ltb-true n 10 e)))
-    (λ e. rw e (keeps-first (decimalFrom most (n / 10)) (digit (n % 10)) (digits-lead most (n / 10) (omega (arith, ltb-false n 10 e)) (omega (arith, ltb-false n 10 e)))))
+    (λ e. rw e (keeps-first (decimalFrom most (ltb (n / 10) 10) (n / 10)) (digit (n % 10)) (digits-lead most (n / 10) (omega (arith, ltb-false n 10 e)) (omega (arith, ltb-false n 10 e)))))
 
 pub decimal-rule : DecimalRule
 unfolding decimal decimalFrom

@@ -29,7 +29,7 @@ removed space i =
       tuples = without i (held space) ++ (blankTuple ∷ drop (space .count) (space .tuples));
     }
 
--- an entry that has no room, a place that holds no tuple, and a count above 128 change nothing
+-- an entry that has no room, a place that holds no tuple, and a count above 256 change nothing
 unfoldable pub carriedOut : Space → Tuple → Change → Space
 carriedOut space entry Keep = space
 carriedOut space entry Append = cond (ltb (space .count) capacity) (appended space entry) space

@@ -26,7 +26,7 @@ answered outcome tuple change = record { reply = record { outcome = outcome; tup
 abbrev pub refuses : Refusal → Effect
 refuses why = answered (outcome.Refused why) blankTuple Keep
 
--- the entry is appended to this many tuples; to 128 it is refused 8
+-- the entry is appended to this many tuples; to 256 it is refused 8
 abbrev pub appends : Outcome → ℕ → Effect
 appends how count = cond (ltb count capacity) (answered how blankTuple Append) (refuses (refusal 8))
 

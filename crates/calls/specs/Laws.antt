@@ -29,8 +29,8 @@ use Rattle.tuple.specs.Refusals.{refusal}
 
 -- what becomes of the tuples, carried out: out and an inserted cas append the entry, inp takes a tuple off and the rest keeps its order
 pub record CarriedRule (config : Config) (tuples : List Tuple) (entry : Tuple) : Type 0 where
-  pub append : length tuples < 128 → carriedOut (spaceOf config tuples) entry Append ≡ spaceOf config (tuples ++ (entry ∷ []))
-  pub remove : (i : ℕ) → i < length tuples → length tuples ≤ 128 → carriedOut (spaceOf config tuples) entry (Remove i) ≡ spaceOf config (without i tuples)
+  pub append : length tuples < 256 → carriedOut (spaceOf config tuples) entry Append ≡ spaceOf config (tuples ++ (entry ∷ []))
+  pub remove : (i : ℕ) → i < length tuples → length tuples ≤ 256 → carriedOut (spaceOf config tuples) entry (Remove i) ≡ spaceOf config (without i tuples)
 
 abbrev pub CarriedRules : Type 0
 CarriedRules = (config : Config) (tuples : List Tuple) (entry : Tuple) → CarriedRule config tuples entry
@@ -59,8 +59,8 @@ pub data RefusedBy (space : Space) (call : Call) : Refusal → Type 0 where
   faulty : (why : Refusal) → wellFormed space ≡ true → callFault call ≡ Present why → RefusedBy space call why
   stranger : wellFormed space ≡ true → callFault call ≡ Absent → ((1 ≤ call .process) × (call .process ≤ space .config .n) → ⊥) → RefusedBy space call (refusal 6)
   denied : (why : Refusal) → Denied why space call → RefusedBy space call why
-  -- an out, or a cas without match, where 128 tuples stand
-  full : Obeyed space call → 128 ≤ length (held space) → (call .code ≡ 1) ⊎ ((call .code ≡ 4) × (oldestOf (held space) (call .template) ≡ Nowhere))
+  -- an out, or a cas without match, where 256 tuples stand
+  full : Obeyed space call → 256 ≤ length (held space) → (call .code ≡ 1) ⊎ ((call .code ≡ 4) × (oldestOf (held space) (call .template) ≡ Nowhere))
       → RefusedBy space call (refusal 8)
 
 abbrev pub RefusedRule : Type 0
@@ -88,14 +88,14 @@ pub record Answers (space : Space) (call : Call) (outcome : Outcome) (tuple : Tu
 -- out appends its entry; rdp answers with the oldest that matches, or none; inp answers the same and takes that one off; cas is held with the oldest that
 -- matches, or else appends its entry. Where no tuple is answered, a blank one stands. For 8, see `RefusedRule`
 pub record ObeyedRule (space : Space) (call : Call) : Type 0 where
-  pub out-done : call .code ≡ 1 → length (held space) < 128 → Answers space call Done blankTuple (held space ++ (call .entry ∷ []))
+  pub out-done : call .code ≡ 1 → length (held space) < 256 → Answers space call Done blankTuple (held space ++ (call .entry ∷ []))
   pub rdp-found : call .code ≡ 2 → (i : ℕ) → oldestOf (held space) (call .template) ≡ At i → Answers space call Found (getD (held space) i blankTuple) (held space)
   pub rdp-none : call .code ≡ 2 → oldestOf (held space) (call .template) ≡ Nowhere → Answers space call None blankTuple (held space)
   pub inp-found : call .code ≡ 3 → (i : ℕ) → oldestOf (held space) (call .template) ≡ At i
       → Answers space call Found (getD (held space) i blankTuple) (without i (held space))
   pub inp-none : call .code ≡ 3 → oldestOf (held space) (call .template) ≡ Nowhere → Answers space call None blankTuple (held space)
   pub cas-held : call .code ≡ 4 → (i : ℕ) → oldestOf (held space) (call .template) ≡ At i → Answers space call Held (getD (held space) i blankTuple) (held space)
-  pub cas-inserted : call .code ≡ 4 → oldestOf (held space) (call .template) ≡ Nowhere → length (held space) < 128
+  pub cas-inserted : call .code ≡ 4 → oldestOf (held space) (call .template) ≡ Nowhere → length (held space) < 256
       → Answers space call Inserted blankTuple (held space ++ (call .entry ∷ []))
 
 abbrev pub ObeyedRules : Type 0

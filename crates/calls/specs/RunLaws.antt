@@ -27,12 +27,12 @@ use Rattle.tuple.specs.Refusals.{refusal}
 abbrev pub Unchecked : Type 0
 Unchecked = (config : Config) (calls : List Call) → uncheckedFrom (freshOf config .space) calls ≡ turns config calls
 
--- what is judged without that test, on any space. Out of bounds it is 1. Within them, with 128 places and entries at those below the count, a call does what
+-- what is judged without that test, on any space. Out of bounds it is 1. Within them, with 256 places and entries at those below the count, a call does what
 -- `applied` does on the space of these tuples, whatever stands behind them
 pub record JudgedRule (space : Space) (call : Call) : Type 0 where
   pub unsound : sound (space .config) ≡ false → judged space call ≡ refuses (refusal 1)
-  pub above : 128 < space .count → judged space call ≡ refuses (refusal 1)
-  pub within : sound (space .config) ≡ true → space .count ≤ 128 → length (space .tuples) ≡ 128 → Entries (held space)
+  pub above : 256 < space .count → judged space call ≡ refuses (refusal 1)
+  pub within : sound (space .config) ≡ true → space .count ≤ 256 → length (space .tuples) ≡ 256 → Entries (held space)
       → carriedBy (spaceOf (space .config) (held space)) call (judged space call) ≡ applied (spaceOf (space .config) (held space)) call
 
 abbrev pub JudgedRules : Type 0

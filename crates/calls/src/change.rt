@@ -18,7 +18,7 @@ pub enum Change {
 }
 
 // The space after a change. Neither the space nor the entry is tested (docs/DECISIONS.md, "Functions that leave a test out"): an entry that has no room,
-// a place that holds no tuple, and a count above 128 change nothing. All in one function, so that the space is copied once.
+// a place that holds no tuple, and a count above 256 change nothing. All in one function, so that the space is copied once.
 pub fn carry_out_unchecked(space: Space, entry: Tuple, change: Change) -> Space
     ensures { λ r. ⌜ r ≡ carriedOut space entry change ⌝ }
 {

@@ -148,9 +148,9 @@ BufferRules = (space : Space) (buffer : List ℕ) → BufferRule space buffer
 
 -- ---- how long the script is
 
--- at most 4,995 bytes
+-- at most 9,987 bytes
 abbrev pub LengthMost : Type 0
-LengthMost = (space : Space) (room n : ℕ) → Typed space → writtenOf space room ≡ Length n → (n ≡ length (dumpBytes space)) × (n ≤ 4_995)
+LengthMost = (space : Space) (room n : ℕ) → Typed space → writtenOf space room ≡ Length n → (n ≡ length (dumpBytes space)) × (n ≤ 9_987)
 
 -- so a buffer of as many has room for the script of every space: there 10 never comes
 abbrev pub AlwaysRoom : Type 0
@@ -160,7 +160,7 @@ AlwaysRoom =
     → wellFormed space ≡ true
     → (space .config .policy ≡ 5 → ⊥)
     → (writtenOf space room ≡ Unwritten (refusal 14) → ⊥)
-    → 4_995 ≤ room
+    → 9_987 ≤ room
     → writtenOf space room ≡ Length (length (dumpBytes space))
 
 -- under policy 4 at most 3,027: a set-up of three, and 27 for each of 112 tuples
@@ -177,13 +177,13 @@ pub record Wide (tuple : Tuple) : Type 0 where
   pub six : tuple .count ≡ 6
   pub each : (i : ℕ) → i < 6 → (is count defined (field tuple i) ≡ true) × (268_435_456 ≤ field tuple i .value)
 
--- 128 such tuples under policy 0 have exactly 4,995, and there are such
+-- 256 such tuples under policy 0 have exactly 9,987, and there are such
 pub record LengthAttained : Type 0 where
   pub each : (config : Config) (tuples : List Tuple) (room : ℕ)
       → sound config ≡ true
       → config .policy ≡ 0
-      → length tuples ≡ 128
+      → length tuples ≡ 256
       → ((tuple : Tuple) → List·Memᴰ tuple tuples → (isEntry tuple ≡ true) × (length (tuple .fields) ≡ places) × Wide tuple)
-      → 4_995 ≤ room
-      → writtenOf (spaceOf config tuples) room ≡ Length 4_995
+      → 9_987 ≤ room
+      → writtenOf (spaceOf config tuples) room ≡ Length 9_987
   pub one : (tuple : Tuple) × (isEntry tuple ≡ true) × (length (tuple .fields) ≡ places) × Wide tuple

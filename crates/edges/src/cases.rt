@@ -56,8 +56,8 @@ pub(crate) fn limits() {
         set-up 1 0\n\
         field count 6\n\
         field count 7\n\
-        seats 32767\n\
-        seats 32768";
+        seats 2147483647\n\
+        seats 2147483648";
     set_up(labels, 1, 4, 1);
     set_up(labels, 2, 3, 1);
     set_up(labels, 3, 1, 0);
@@ -65,8 +65,24 @@ pub(crate) fn limits() {
     let board = open(4, 1, 0);
     make(labels, 4, board, 1, OUT, blank, words(6));
     make(labels, 5, board, 1, OUT, blank, words(7));
-    make(labels, 6, board, 1, OUT, blank, pair(PROCESS_SET, 32_767));
-    make(labels, 7, board, 1, OUT, blank, pair(PROCESS_SET, 32_768));
+    make(
+        labels,
+        6,
+        board,
+        1,
+        OUT,
+        blank,
+        pair(PROCESS_SET, 2_147_483_647),
+    );
+    make(
+        labels,
+        7,
+        board,
+        1,
+        OUT,
+        blank,
+        pair(PROCESS_SET, 2_147_483_648),
+    );
 }
 
 // A cas of bottom.
@@ -154,13 +170,13 @@ fn proposed(first: u64, second: u64) -> Space {
 
 pub(crate) fn capacity() {
     let labels: &[u8] = b"\
-        out 128\n\
-        out 129\n\
+        out 256\n\
+        out 257\n\
         full cas that matches\n\
         full cas without match";
     let blank = Tuple::blank();
     let six = words(6);
-    let board = filled(open(1, 0, 0), six, 127);
+    let board = filled(open(1, 0, 0), six, 255);
     let full = make(labels, 1, board, 1, OUT, blank, six);
     make(labels, 2, full, 1, OUT, blank, six);
     make(labels, 3, full, 1, CAS, six, six);
@@ -186,7 +202,7 @@ pub(crate) fn not_well_formed() {
         not well formed, 3 1 and seven fields\n\
         n set right\n\
         not well formed, policy 6\n\
-        not well formed, 129 tuples\n\
+        not well formed, 257 tuples\n\
         not well formed, open field\n\
         not well formed, offset above 100000\n\
         not well formed, unused place";
@@ -201,13 +217,13 @@ pub(crate) fn not_well_formed() {
     let mut unknown = open(4, 1, 2);
     unknown.config.policy = 6;
     make(labels, 4, unknown, 1, RDP, asking(), blank);
-    let mut full = filled(open(1, 0, 0), own, 128);
-    full.count = 129;
+    let mut full = filled(open(1, 0, 0), own, 256);
+    full.count = 257;
     make(labels, 5, full, 1, RDP, asking(), blank);
     held_first(labels, 6, asking());
     held_first(labels, 7, pair(OFFSET, 200_002));
     let mut dirty = open(4, 1, 2);
-    dirty.tuples[127] = own;
+    dirty.tuples[255] = own;
     make(labels, 8, dirty, 1, RDP, asking(), blank);
 }
 

@@ -47,7 +47,7 @@ pub data Fitting (process : Process) (reply : Reply) : Type 0 where
   -- inserted after cas, or held with a decision of the round, of what may be decided and a set in 1 to n
   inserted : process .phase ≡ Deciding → reply ≡ record { outcome = Inserted; tuple = nothing } → Fitting process reply
   held : (offset : Offset) (set : ℕ) → process .phase ≡ Deciding → MayDecide (process .config) (process .round) offset
-      → ((k : ℕ) → Member k set → k ≤ process .config .n) → set ≤ 32_767
+      → ((k : ℕ) → Member k set → k ≤ process .config .n) → set ≤ 2_147_483_647
       → reply ≡ record { outcome = Held; tuple = decisionOf (process .round) (codeOf offset) set } → Fitting process reply
 
 -- a reply fits a well-formed state exactly so; its tuple's type says that it has six places

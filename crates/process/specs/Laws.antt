@@ -36,19 +36,19 @@ use Rattle.tuple.specs.Shapes.{field}
 
 -- ---- what is blank, in numbers
 
--- of 15 processes none is found
-abbrev pub fifteenZeros : List ℕ
-fifteenZeros = 0 ∷ 0 ∷ 0 ∷ 0 ∷ 0 ∷ 0 ∷ 0 ∷ 0 ∷ 0 ∷ 0 ∷ 0 ∷ 0 ∷ 0 ∷ 0 ∷ 0 ∷ []
+-- of 31 processes none is found
+abbrev pub foundZeros : List ℕ
+foundZeros = 0 ∷ 0 ∷ 0 ∷ 0 ∷ 0 ∷ 0 ∷ 0 ∷ 0 ∷ 0 ∷ 0 ∷ 0 ∷ 0 ∷ 0 ∷ 0 ∷ 0 ∷ 0 ∷ 0 ∷ 0 ∷ 0 ∷ 0 ∷ 0 ∷ 0 ∷ 0 ∷ 0 ∷ 0 ∷ 0 ∷ 0 ∷ 0 ∷ 0 ∷ 0 ∷ 0 ∷ []
 
 -- the state where none was started
 abbrev pub noProcess : Process
-noProcess = record { config = record { n = 0; t = 0; policy = 0; k = 0 }; process = 0; round = 0; phase = Proposing; found = fifteenZeros }
+noProcess = record { config = record { n = 0; t = 0; policy = 0; k = 0 }; process = 0; round = 0; phase = Proposing; found = foundZeros }
 
 -- ---- states
 
 -- a state is well formed exactly if the procedure can reach it by fitting replies; its type says that it has a place for each process
 abbrev pub ReachableRule : Type 0
-ReachableRule = (process : Process) → length (process .found) ≡ 15 → (wellFormed process ≡ true) ↔ Reachable process
+ReachableRule = (process : Process) → length (process .found) ≡ 31 → (wellFormed process ≡ true) ↔ Reachable process
 
 -- the state that replies, handed in one behind the other, lead to; `advanced` asks nothing of the state
 unfoldable pub led : Process → List Reply → Process
@@ -75,12 +75,12 @@ pub record LedTo (state : Process) : Type 0 where
 abbrev pub ReachedRule : Type 0
 ReachedRule = (process : Process) → Reachable process ↔ LedTo process
 
--- so well formed is what a start that is not refused gives, and what a fitting reply makes of a well-formed state, each with 15 places
+-- so well formed is what a start that is not refused gives, and what a fitting reply makes of a well-formed state, each with 31 places
 pub record FormedRule : Type 0 where
   pub starts : (config : Config) (process round : ℕ) (offset : Offset) → started config process round offset .next ≡ Calls
-      → (wellFormed (started config process round offset .process) ≡ true) × (length (started config process round offset .process .found) ≡ 15)
-  pub resumes : (process : Process) (reply : Reply) → length (process .found) ≡ 15 → wellFormed process ≡ true → fits process reply ≡ true
-      → (wellFormed (resumed process reply .process) ≡ true) × (length (resumed process reply .process .found) ≡ 15)
+      → (wellFormed (started config process round offset .process) ≡ true) × (length (started config process round offset .process .found) ≡ 31)
+  pub resumes : (process : Process) (reply : Reply) → length (process .found) ≡ 31 → wellFormed process ≡ true → fits process reply ≡ true
+      → (wellFormed (resumed process reply .process) ≡ true) × (length (resumed process reply .process .found) ≡ 31)
 
 -- under policy 3 one that has decided has a choice, and never bottom
 abbrev pub ChoiceDecided : Type 0
@@ -133,7 +133,7 @@ pub record StartOrder (config : Config) (process round : ℕ) (offset : Offset) 
       → started config process round offset
       ≡ record {
         next = Calls;
-        process = record { config = config; process = process; round = round; phase = Proposing; found = fifteenZeros };
+        process = record { config = config; process = process; round = round; phase = Proposing; found = foundZeros };
         call = record { process = process; code = 1; template = nothing; entry = proposalOf round process (codeOf offset) };
       }
 
@@ -164,7 +164,7 @@ pub record Casts (process : Process) (step : Step) (value : ℕ) (found : List �
 pub record HasSettled (process : Process) (step : Step) (code : ℕ) : Type 0 where
   pub decides : step .next ≡ Decides (offsetOf code)
   pub call : step .call ≡ noCall
-  pub state : step .process ≡ record { config = process .config; process = process .process; round = process .round; phase = Decided code; found = fifteenZeros }
+  pub state : step .process ≡ record { config = process .config; process = process .process; round = process .round; phase = Decided code; found = foundZeros }
 
 -- when its proposal is done, it reads the process 1 first
 abbrev pub ReadsFirst : Type 0
@@ -217,7 +217,7 @@ Unmoved =
 abbrev pub Repeats : Type 0
 Repeats =
     (process : Process) (reply : Reply) (code : ℕ)
-    → length (process .found) ≡ 15
+    → length (process .found) ≡ 31
     → wellFormed process ≡ true
     → process .phase ≡ Decided code
     → resumed process reply ≡ record { next = Decides (offsetOf code); process = process; call = noCall }

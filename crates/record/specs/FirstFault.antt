@@ -20,11 +20,11 @@ pub data Unread (s : List ℕ) (at : ℕ) : ℕ → Type 0 where
 
 -- ---- a field of a template, or of an entry
 
--- a word above 255, an offset's code above 200,001, a set above 32,767; every number is a count
+-- a word above 255, an offset's code above 200,001, a set above 2,147,483,647; every number is a count
 pub data BeyondKind : ℕ → ℕ → Type 0 where
   word : (value : ℕ) → 255 < value → BeyondKind 1 value
   offset : (value : ℕ) → 200_001 < value → BeyondKind 3 value
-  set : (value : ℕ) → 32_767 < value → BeyondKind 4 value
+  set : (value : ℕ) → 2_147_483_647 < value → BeyondKind 4 value
 
 -- its head can't be read, is unknown, or is that of an undefined field in an entry; then its value can't be read, or is beyond its kind
 pub data FieldStops (entry : Bool) (s : List ℕ) (at : ℕ) : ℕ → Type 0 where

@@ -93,7 +93,7 @@ pub(crate) fn bottom() {
 // propose the first r + 1 of the offsets.
 pub(crate) fn full() {
     let offsets = [-100, -50, 0, 50, 100, 150, 200, 250];
-    let mut space = begin(b"full", PROCESSES as u64, 4, 0);
+    let mut space = begin(b"full", PROCESSES as u64, 10, 0);
     let config = space.config;
     for round in 0..8 {
         let steps = started(config, round as u64, offsets, round + 1);

@@ -105,4 +105,15 @@ fn choices() {
         PASSES,
         Strays::Nobody,
     );
+    // Thirty-one, of which eight are silent, and two choices: only the twenty-first proposal that is found settles it.
+    run(
+        b"wide",
+        31,
+        10,
+        2,
+        0,
+        [SILENT, 0, 1, 0, SILENT, 1, 0, 1],
+        PASSES,
+        Strays::Nobody,
+    );
 }

@@ -10,8 +10,8 @@ use space::PROCESSES;
 use space::Space;
 use tuple::Call;
 
-// More passes than a round of the cases takes.
-pub(crate) const PASSES: u32 = 24;
+// As many passes as a round takes in which all have proposed before any reads: an out, a reading of each process, and a cas.
+pub(crate) const PASSES: u32 = PROCESSES as u32 + 2;
 
 // The space, and what each process's state last gave: the call that it makes next, its decision, or a refusal.
 pub(crate) struct Round {

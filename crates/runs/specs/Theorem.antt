@@ -28,7 +28,7 @@ pub data Needs (config : Config) : Type 0 where
 -- a sound configuration under one of these
 pub record SoundConfig (config : Config) : Type 0 where
   pub some : 1 ≤ config .n
-  pub most : config .n ≤ 15
+  pub most : config .n ≤ 31
   pub policy : Needs config
 
 -- of the processes 1 to n at most t are faulty, that is, not correct

@@ -69,10 +69,10 @@ rows =
     ∷ "01 01 01 04 01" prints ""
     ∷ "" prints "tuples 1"
     ∷ [])
-    -- six fields, with the largest values of their kinds but of a count, and the mark
+    -- six fields, with the largest values of their kinds, and the mark
     ∷ ("04 01 00" prints "board 4 1 0"
-    ∷ "01 01 06 04 FF 01 08 FF FF 03 0C C1 9A 0C 0C C0 9A 0C 10 FF FF 01 0C 00" prints "1 done"
-    ∷ "01 02 06 05 09 0D 0D 11 0D" prints "2 found w255 c65535 o100000 o-100000 s32767 o_"
+    ∷ "01 01 06 04 FF 01 08 FF FF FF FF 0F 0C C1 9A 0C 0C C0 9A 0C 10 FF FF FF FF 07 0C 00" prints "1 done"
+    ∷ "01 02 06 05 09 0D 0D 11 0D" prints "2 found w255 c4294967295 o100000 o-100000 s2147483647 o_"
     ∷ "" prints "tuples 1"
     ∷ [])
     -- three tuples, of which inp takes the second off, and then the first; process 0
@@ -126,10 +126,15 @@ rows =
     ∷ ("04 01 00" prints "board 4 1 0" ∷ "01 02 00" prints "1 refused 5" ∷ "" prints "tuples 0" ∷ [])
     ∷ ("04 01 00" prints "board 4 1 0" ∷ "01 02 07 05 05 05 05 05 05 05" prints "1 refused 5" ∷ "" prints "tuples 0" ∷ [])
     ∷ ("04 01 00" prints "board 4 1 0" ∷ "01 01 01 05" prints "1 refused 5" ∷ "" prints "tuples 0" ∷ [])
-    -- offsets 100,001 and -100,001, and a process set of 32,768
+    -- offsets 100,001 and -100,001, and a process set of 2,147,483,648; one of 32,768 is held, and the records behind it are made
     ∷ ("04 01 00" prints "board 4 1 0" ∷ "01 01 01 0C C3 9A 0C" prints "1 refused 3" ∷ "" prints "tuples 0" ∷ [])
     ∷ ("04 01 00" prints "board 4 1 0" ∷ "01 01 01 0C C2 9A 0C" prints "1 refused 3" ∷ "" prints "tuples 0" ∷ [])
-    ∷ ("04 01 00" prints "board 4 1 0" ∷ "01 01 01 10 80 80 02" prints "1 refused 3" ∷ "" prints "tuples 0" ∷ [])
+    ∷ ("04 01 00" prints "board 4 1 0" ∷ "01 01 01 10 80 80 80 80 08" prints "1 refused 3" ∷ "" prints "tuples 0" ∷ [])
+    ∷ ("04 01 00" prints "board 4 1 0"
+    ∷ "01 01 01 10 80 80 02" prints "1 done"
+    ∷ "01 02 01 11" prints "2 found s32768"
+    ∷ "" prints "tuples 1"
+    ∷ [])
     -- policy 1: any in the place of open, the mark, round 8 and rdp are denied; a second cas of a round is held
     ∷ ("04 01 01" prints "board 4 1 1"
     ∷ "01 04 03 04 02 08 00 0D 03 04 02 08 00 0C 51" prints "1 refused 7"
@@ -208,9 +213,11 @@ rows =
     ∷ "02 02 05 04 03 08 02 09 09 0E" prints "10 found w3 c2 c2 c9 o40"
     ∷ "" prints "tuples 2"
     ∷ [])
-    -- set-ups that stand: one process, fifteen, eight choices
+    -- set-ups that stand: one process, fifteen, thirty-one of which ten may be faulty, also with two choices, eight choices
     ∷ ("01 00 00" prints "board 1 0 0" ∷ "" prints "tuples 0" ∷ [])
     ∷ ("0F 04 02" prints "board 15 4 2" ∷ "" prints "tuples 0" ∷ [])
+    ∷ ("1F 0A 02" prints "board 31 10 2" ∷ "" prints "tuples 0" ∷ [])
+    ∷ ("1F 0A 03 02" prints "board 31 10 3 2" ∷ "" prints "tuples 0" ∷ [])
     ∷ ("0A 01 03 08" prints "board 10 1 3 8" ∷ "" prints "tuples 0" ∷ [])
     -- set-ups that end too early: at once, inside t, before the policy number, before k, and before k where n would be refused 1
     ∷ ("" prints "refused 2" ∷ [])
@@ -224,10 +231,11 @@ rows =
     ∷ ("04 FF FF FF FF 10 02" prints "refused 3" ∷ [])
     ∷ ("04 01 82 00" prints "refused 3" ∷ [])
     ∷ ("04 01 03 80 00" prints "refused 3" ∷ [])
-    -- set-ups that are not sound: no process, sixteen, n below 3t + 1 (also where 3t + 1 would wrap), policy 6
+    -- set-ups that are not sound: no process, thirty-two, n below 3t + 1 (also with the most processes, and where 3t + 1 would wrap), policy 6
     ∷ ("00 00 02" prints "refused 1" ∷ [])
-    ∷ ("10 00 02" prints "refused 1" ∷ [])
+    ∷ ("20 00 02" prints "refused 1" ∷ [])
     ∷ ("03 01 02" prints "refused 1" ∷ [])
+    ∷ ("1F 0B 02" prints "refused 1" ∷ [])
     ∷ ("04 D5 AA D5 AA 05 02" prints "refused 1" ∷ [])
     ∷ ("04 01 06" prints "refused 1" ∷ [])
     -- one choice, nine choices, and n below (k + 1)t + 1

@@ -7,6 +7,11 @@ use crate::show::line;
 use crate::show::number;
 use crate::show::text;
 
+// No file of data/ has more bytes, and no script of them.
+const SOURCE: usize = 16_384;
+
+const SCRIPT: usize = 8192;
+
 // The bytes of a file, put at the start of buffer.
 pub(crate) fn load(name: &[u8], buffer: &mut [u8]) -> usize
     ensures { λ r. ⌜ Counts r (now (buffer .exit)) ⌝ }
@@ -45,16 +50,16 @@ pub(crate) fn line_end(list: &[u8], start: usize) -> usize
 // The name and the text of a script.
 fn run(name: &[u8]) {
     line(name);
-    let mut source = [0u8; 8192];
+    let mut source = [0u8; SOURCE];
     let n = load(name, &mut source);
-    let mut script = [0u8; 4096];
+    let mut script = [0u8; SCRIPT];
     let k = decode(&source[..n], &mut script);
     text(&script[..k]);
 }
 
 // The text of what a record and the set-up before it are cut to, at each byte.
 pub(crate) fn cuts() {
-    let mut source = [0u8; 8192];
+    let mut source = [0u8; SOURCE];
     let n = load(b"record", &mut source);
     let mut script = [0u8; 64];
     let k = decode(&source[..n], &mut script);

@@ -1,5 +1,5 @@
 -- A sound configuration is what documents 01 and 02 say, and n is at least 3t + 1 under every policy.
-use mathlib.Core.Path.{_≡_}
+use mathlib.Core.Path.{_≡_, refl}
 use mathlib.Core.Logic.{_↔_, inl, inr, ⊎-elim}
 use mathlib.Core.Bool.{true, _&&_, or-true, and-eq-true-iff}
 use Prim.Native.Nat.{ℕ, _+_, _*_, _≤_}
@@ -11,7 +11,7 @@ use borrow.Table.Steps.{cases}
 use Rattle.space.specs.declared.config.Config.{Config}
 use Rattle.space.specs.Bounds.{processes, lastPolicy, fewestChoices, mostChoices}
 use Rattle.space.specs.Configs.{choiceSound, plainSound, sound, hasProposals, hasList}
-use Rattle.space.specs.Laws.{SoundRule, Sound, ProposalsRule, HasListRule}
+use Rattle.space.specs.Laws.{SoundRule, Sound, MostFaulty, ProposalsRule, HasListRule}
 
 choice-sound-rule : (config : Config)
     → (choiceSound config ≡ true) ↔ ((fewestChoices ≤ config .k) × (config .k ≤ mostChoices) × ((config .k + 1) * config .t + 1 ≤ config .n))
@@ -64,6 +64,10 @@ sound-range config h =
     omega (arith, choice .2))
     (λ e. s .others (eqb-false (config .policy) 3 e) .1) in
     (s .some, s .few, enough, s .policy)
+
+pub most-faulty : MostFaulty
+unfolding sound choiceSound plainSound
+most-faulty = record { most = λ config h. omega (arith, sound-range config h); default = refl; choice = refl }
 
 pub sound-choices : (config : Config) → sound config ≡ true → config .k ≤ mostChoices
 sound-choices config h =

@@ -3,7 +3,7 @@ use Prim.Native.Nat.{ℕ}
 
 -- the most processes
 abbrev pub processes : ℕ
-processes = 15
+processes = 31
 
 -- the number of rounds
 abbrev pub rounds : ℕ

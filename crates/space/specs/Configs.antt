@@ -18,7 +18,7 @@ plainSound config = leb (config .policy) lastPolicy && eqb (config .k) 0 && leb 
 abbrev pub hasChoices : Config → Bool
 hasChoices config = eqb (config .policy) 3
 
--- n is 1 to 15
+-- n is 1 to 31
 unfoldable pub sound : Config → Bool
 sound config = leb 1 (config .n) && leb (config .n) processes && cond (hasChoices config) (choiceSound config) (plainSound config)
 

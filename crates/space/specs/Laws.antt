@@ -27,17 +27,23 @@ use Rattle.tuple.specs.Shapes.{field}
 
 -- ---- configurations
 
--- n is 1 to 15, and the policy at most 5. Policy 3 has a k, 2 to 8, and needs n at least (k + 1)t + 1; under the others k is 0, and n at
+-- n is 1 to 31, and the policy at most 5. Policy 3 has a k, 2 to 8, and needs n at least (k + 1)t + 1; under the others k is 0, and n at
 -- least 3t + 1
 pub record Sound (config : Config) : Type 0 where
   pub some : 1 ≤ config .n
-  pub few : config .n ≤ 15
+  pub few : config .n ≤ 31
   pub policy : config .policy ≤ 5
   pub choice : config .policy ≡ 3 → (2 ≤ config .k) × (config .k ≤ 8) × ((config .k + 1) * config .t + 1 ≤ config .n)
   pub others : (config .policy ≡ 3 → ⊥) → (config .k ≡ 0) × (3 * config .t + 1 ≤ config .n)
 
 abbrev pub SoundRule : Type 0
 SoundRule = (config : Config) → (sound config ≡ true) ↔ Sound config
+
+-- so at most 10 processes may be faulty, and of 31 as many may be, under policy 3 with two choices
+pub record MostFaulty : Type 0 where
+  pub most : (config : Config) → sound config ≡ true → config .t ≤ 10
+  pub default : sound (record { n = 31; t = 10; policy = 2; k = 0 }) ≡ true
+  pub choice : sound (record { n = 31; t = 10; policy = 3; k = 2 }) ≡ true
 
 abbrev pub ProposalsRule : Type 0
 ProposalsRule = (config : Config) → (hasProposals config ≡ true) ↔ ((config .policy ≡ 2) ⊎ (config .policy ≡ 3))
@@ -154,12 +160,12 @@ AnnouncedRules = (tuples : List Tuple) (process : ℕ) → AnnouncedRule tuples 
 
 -- ---- spaces
 
--- a sound configuration, at most 128 tuples, an entry at each used place, and a blank tuple at each other
+-- a sound configuration, at most 256 tuples, an entry at each used place, and a blank tuple at each other
 pub record Formed (space : Space) : Type 0 where
   pub config : sound (space .config) ≡ true
-  pub few : space .count ≤ 128
+  pub few : space .count ≤ 256
   pub used : (i : ℕ) → i < space .count → isEntry (getD (space .tuples) i blankTuple) ≡ true
-  pub unused : (i : ℕ) → space .count ≤ i → i < 128 → getD (space .tuples) i blankTuple ≡ blankTuple
+  pub unused : (i : ℕ) → space .count ≤ i → i < 256 → getD (space .tuples) i blankTuple ≡ blankTuple
 
 abbrev pub WellFormedRule : Type 0
 WellFormedRule = (space : Space) → Typed space → (wellFormed space ≡ true) ↔ Formed space

@@ -34,7 +34,7 @@ placesFrom count [] = true
 placesFrom zero (tuple ∷ tuples) = placeSound tuple false && placesFrom zero tuples
 placesFrom (suc count) (tuple ∷ tuples) = placeSound tuple true && placesFrom count tuples
 
--- a sound configuration, and at most 128 tuples
+-- a sound configuration, and at most 256 tuples
 abbrev pub isBounded : Config → ℕ → Bool
 isBounded config count = sound config && leb count capacity
 
@@ -54,7 +54,7 @@ freshOf config =
 
 -- ---- what the laws ask of a space
 
--- what the struct's types say of it: 128 places, each a tuple of six
+-- what the struct's types say of it: 256 places, each a tuple of six
 pub record Typed (space : Space) : Type 0 where
   pub tuples : length (space .tuples) ≡ capacity
   pub fields : (tuple : Tuple) → List·Memᴰ tuple (space .tuples) → length (tuple .fields) ≡ places

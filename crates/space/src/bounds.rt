@@ -1,5 +1,5 @@
 // The bounds of configurations: the most processes, the number of rounds, the last policy, and how many choices policy 3 may have.
-pub const PROCESSES: usize = 15;
+pub const PROCESSES: usize = 31;
 
 pub const ROUNDS: u64 = 8;
 

@@ -30,7 +30,7 @@ impl Config {
         }
     }
 
-    // Whether n is 1 to 15, the policy at most 5, and n and k are what the policy needs.
+    // Whether n is 1 to 31, the policy at most 5, and n and k are what the policy needs.
     pub fn is_sound(self) -> bool
         ensures { λ r. ⌜ r ≡ sound self ⌝ }
     {

@@ -1,4 +1,4 @@
--- Documents 00 and 01: the bounds of tuples and of what their fields hold, each under its name.
+-- Documents 00, 01 and 02: the bounds of tuples and of what their fields hold, each under its name.
 use Prim.Native.Nat.{ℕ}
 
 -- the most fields of a tuple
@@ -7,7 +7,7 @@ places = 6
 
 -- the most tuples of a space
 abbrev pub capacity : ℕ
-capacity = 128
+capacity = 256
 
 -- the largest number of a process in a call
 abbrev pub largestProcess : ℕ
@@ -24,7 +24,7 @@ abbrev pub largestCode : ℕ
 largestCode = 200_001
 
 abbrev pub largestSet : ℕ
-largestSet = 32_767
+largestSet = 2_147_483_647
 
 -- the largest offset; the least is its negative
 abbrev pub largestOffset : ℕ

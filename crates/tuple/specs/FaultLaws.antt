@@ -26,7 +26,7 @@ pub record Within (f : Field) : Type 0 where
   pub word : f .kind ≡ 1 → f .value ≤ 255
   pub count : f .kind ≡ 2 → f .value ≤ 4_294_967_295
   pub offset : f .kind ≡ 3 → f .value ≤ 200_001
-  pub set : f .kind ≡ 4 → f .value ≤ 32_767
+  pub set : f .kind ≡ 4 → f .value ≤ 2_147_483_647
 
 pub record SoundField (entry : Bool) (f : Field) : Type 0 where
   pub head : Headed f

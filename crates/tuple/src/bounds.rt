@@ -3,7 +3,7 @@
 // The most fields of a tuple, and the most tuples of a space.
 pub const FIELDS: usize = 6;
 
-pub const TUPLES: usize = 128;
+pub const TUPLES: usize = 256;
 
 // The largest value of each kind; an offset's is its largest code.
 pub const LARGEST_WORD: u64 = 255;
@@ -12,7 +12,7 @@ pub const LARGEST_COUNT: u64 = 4_294_967_295;
 
 pub const LARGEST_CODE: u64 = 200_001;
 
-pub const LARGEST_SET: u64 = 32_767;
+pub const LARGEST_SET: u64 = 2_147_483_647;
 
 // The largest offset; the least is its negative.
 pub const LARGEST_OFFSET: i32 = 100_000;

@@ -1,4 +1,4 @@
--- `dump::appending::own_process` meets its contract: its test is the definition's, and a process of a sound configuration is at most 15.
+-- `dump::appending::own_process` meets its contract: its test is the definition's, and a process of a sound configuration is at most 31.
 use borrow.Author.Needs.{needs}
 use mathlib.Core.Path.{_≡_, sym, _∙_}
 use Prim.Native.Nat.{ℕ, _≤_}

@@ -1,4 +1,4 @@
--- `rounds::schedule::take_pass` ends and stays in the array: the index counts up to fifteen.
+-- `rounds::schedule::take_pass` ends and stays in the array: the index counts up to thirty-one.
 use borrow.Author.Needs.{needs}
 use Prim.Native.Nat.{_-_, _≤_}
 use native.Mathlib.Omega.{arith}

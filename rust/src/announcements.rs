@@ -118,8 +118,8 @@ mod tests {
         assert_eq!(seats(1), [1; 9]);
         assert_eq!(seats(2), [1, 2, 1, 2, 1, 2, 1, 2, 1]);
         assert_eq!(seats(4), [1, 2, 3, 4, 1, 2, 3, 4, 1]);
-        assert_eq!(seats(15), [1, 2, 3, 4, 5, 6, 7, 8, 9]);
-        assert_eq!([14, 15, 16, 111, 112].map(|p| preferred_seat(&config(15), p)), [14, 15, 1, 6, 7]);
+        assert_eq!(seats(31), [1, 2, 3, 4, 5, 6, 7, 8, 9]);
+        assert_eq!([30, 31, 32, 111, 112].map(|p| preferred_seat(&config(31), p)), [30, 31, 1, 18, 19]);
         assert_eq!([111, 112].map(|p| preferred_seat(&config(4), p)), [3, 4]);
     }
 
@@ -369,15 +369,15 @@ mod tests {
 
     #[test]
     fn no_run_fills_the_board() {
-        let mut board = of(15, &[]);
+        let mut board = of(31, &[]);
         for position in 1..=112 {
             assert_eq!(board.call(&cas(1, position, 1, position, 3)), INSERTED);
         }
-        for seat in 1..=15 {
+        for seat in 1..=31 {
             assert_eq!(board.call(&out(seat, 0, 3)), Ok(Answer::DONE));
             assert_eq!(board.call(&out(seat, 1, 3)), DENIED);
         }
-        assert_eq!(board.count, MOST_TUPLES - 1);
+        assert_eq!(board.count, 143);
     }
 
     #[test]

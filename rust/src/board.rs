@@ -1,4 +1,5 @@
-//! The board: well-formedness, the four calls (01, "Calls").
+//! The board: well-formedness, the four calls (01, "Calls"; 02, 2.8, for how
+//! much it holds).
 
 use crate::config::Config;
 use crate::fields::Tuple;
@@ -7,7 +8,7 @@ use crate::records::{Call, Code};
 use crate::refusal::Refusal;
 
 /// Most tuples a board holds.
-pub const MOST_TUPLES: usize = 128;
+pub const MOST_TUPLES: usize = 256;
 
 /// What a call is answered with.
 #[derive(Clone, Copy, Debug, PartialEq, Eq, Hash)]
@@ -84,7 +85,7 @@ impl Board {
         &self.tuples[..self.count.min(MOST_TUPLES)]
     }
 
-    /// Refused 1 unless the board is well formed: a sound set-up, at most 128
+    /// Refused 1 unless the board is well formed: a sound set-up, at most 256
     /// tuples, each an entry within its kinds' ranges, and unused places zero.
     pub fn check(&self) -> Result<(), Refusal> {
         self.config.check()?;
@@ -199,17 +200,17 @@ mod tests {
     }
 
     #[test]
-    fn the_129th_has_no_place() {
+    fn the_257th_has_no_place() {
         let mut board = bare();
-        for value in 1..=128 {
+        for value in 1..=256 {
             assert_eq!(obey(&mut board, Call::out(1, number(value))), Ok(Answer::DONE));
         }
         assert_eq!(obey(&mut board, Call::out(1, number(0))), Err(Full));
         assert_eq!(obey(&mut board, Call::cas(1, number(0), number(0))), Err(Full));
         let any = Tuple::of(&[ANY]);
         assert_eq!(obey(&mut board, Call::cas(1, any, number(0))), Ok(Answer::held(number(1))));
-        assert_eq!(obey(&mut board, Call::rdp(1, number(128))), Ok(Answer::found(number(128))));
-        assert_eq!(obey(&mut board, Call::inp(1, number(77))), Ok(Answer::found(number(77))));
+        assert_eq!(obey(&mut board, Call::rdp(1, number(256))), Ok(Answer::found(number(256))));
+        assert_eq!(obey(&mut board, Call::inp(1, number(177))), Ok(Answer::found(number(177))));
         assert_eq!(obey(&mut board, Call::cas(1, number(0), number(0))), Ok(Answer::INSERTED));
         assert_eq!(board.held().last(), Some(&number(0)));
         assert_eq!(obey(&mut board, Call::out(1, number(0))), Err(Full));

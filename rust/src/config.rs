@@ -1,5 +1,6 @@
 //! Set-ups (01, "What is returned, and for what"; 02, 2.1, 2.6 and 2.7, for those
-//! of policies 3 to 5), and what may be proposed and decided under them.
+//! of policies 3 to 5, and 2.8, for how many seats there may be), and what may be
+//! proposed and decided under them.
 
 use std::ops::RangeInclusive;
 
@@ -37,7 +38,7 @@ pub struct Config {
 }
 
 impl Config {
-    /// Refused 1 unless n is 1 to 15, and under policy 3 k is 2 to 8 and n at
+    /// Refused 1 unless n is 1 to 31, and under policy 3 k is 2 to 8 and n at
     /// least (k + 1)t + 1, under the policies 0 to 2, 4 and 5 k is 0 and n at
     /// least 3t + 1.
     pub fn check(&self) -> Result<(), Refusal> {
@@ -97,7 +98,7 @@ mod tests {
 
     #[test]
     fn set_ups() {
-        for (n, t) in [(4, 1), (1, 0), (15, 4), (15, 0), (7, 2), (6, 1)] {
+        for (n, t) in [(4, 1), (1, 0), (31, 10), (31, 0), (30, 9), (16, 5), (7, 2), (6, 1)] {
             for policy in [0, 1, 2, 4, 5] {
                 assert_eq!(config(n, t, policy).check(), Ok(()));
                 for k in [1, 2, 3, 8, u64::MAX] {
@@ -112,11 +113,11 @@ mod tests {
         let third = u64::MAX / 3;
         let wrapping = [third, third + 1, u64::MAX, 1 << 63];
         for policy in [0, 4, 5] {
-            for (n, t) in [(0, 0), (16, 0), (16, 5), (3, 1), (15, 5), (u64::MAX, 0)] {
+            for (n, t) in [(0, 0), (32, 0), (32, 10), (3, 1), (30, 10), (31, 11), (u64::MAX, 0)] {
                 assert_eq!(config(n, t, policy).check(), Err(Unsound));
             }
             for t in wrapping {
-                assert_eq!(config(15, t, policy).check(), Err(Unsound));
+                assert_eq!(config(31, t, policy).check(), Err(Unsound));
             }
         }
         assert_eq!(config(4, 0, u64::MAX).check(), Err(Unsound));
@@ -140,9 +141,20 @@ mod tests {
             }
         }
         for k in [0, 1, 9, u64::from(u32::MAX), u64::MAX - 1, u64::MAX] {
-            for t in [0, 1, 4, u64::MAX] {
+            for t in [0, 1, 10, u64::MAX] {
                 assert_eq!(strong(MOST_SEATS, t, k).check(), Err(Unsound), "{t} {k}");
             }
+        }
+    }
+
+    #[test]
+    fn how_many_may_stray() {
+        let most = |sound: &dyn Fn(u64) -> bool| (0..=MOST_SEATS).filter(|t| sound(*t)).max();
+        for policy in [0, 1, 2, 4, 5] {
+            assert_eq!(most(&|t| config(31, t, policy).check().is_ok()), Some(10));
+        }
+        for (k, expected) in (2..=8).zip([10, 7, 6, 5, 4, 3, 3]) {
+            assert_eq!(most(&|t| strong(31, t, k).check().is_ok()), Some(expected), "{k}");
         }
     }
 
@@ -155,8 +167,8 @@ mod tests {
             for k in 2..=8 {
                 // 0 to k - 1 travel as the odd numbers below 2k.
                 let choice = offset % 2 == 1 && offset < 2 * k;
-                assert_eq!(strong(15, 1, k).may_propose(offset), choice);
-                assert_eq!(strong(15, 1, k).may_decide(offset), choice);
+                assert_eq!(strong(10, 1, k).may_propose(offset), choice);
+                assert_eq!(strong(10, 1, k).may_decide(offset), choice);
             }
         }
     }

@@ -1,4 +1,4 @@
-//! A board written back as a script (02, 2.4, 2.6 and 2.7).
+//! A board written back as a script (02, 2.4 and 2.6 to 2.8).
 
 use crate::board::{AnswerKind, Board, MOST_TUPLES};
 use crate::config::{Config, BARE, LIST, STRONG, WAIT_FREE, WEAK};
@@ -7,7 +7,7 @@ use crate::numbers::{write_number, LONGEST_NUMBER};
 use crate::records::{push_record, Call};
 use crate::refusal::Refusal;
 
-/// The longest script that is written: a set-up of three bytes, then 128 outs
+/// The longest script that is written: a set-up of three bytes, then 256 outs
 /// of six counts. Seat, code, field count and heads take a byte each.
 pub const LONGEST_DUMP: usize = 3 + MOST_TUPLES * (3 + MOST_FIELDS * (1 + LONGEST_NUMBER));
 
@@ -49,7 +49,7 @@ fn set_up(config: &Config) -> Vec<u8> {
     let Config { n, t, policy, k } = *config;
     let mut script = Vec::with_capacity(LONGEST_DUMP);
     for number in [n, t, policy].into_iter().chain((policy == STRONG).then_some(k)) {
-        // The numbers of a sound set-up are at most 15.
+        // The numbers of a sound set-up are at most 31.
         write_number(number as u32, &mut script);
     }
     script
@@ -180,17 +180,17 @@ mod tests {
         for policy in [0, 1, 2, 4] {
             assert_eq!(written(&with(config(4, 1, policy), &[])), [4, 1, policy as u8]);
         }
-        assert_eq!(written(&with(config(15, 4, 2), &[])), [15, 4, 2]);
-        assert_eq!(written(&with(strong(10, 1, 8), &[])), [10, 1, 3, 8]);
+        assert_eq!(written(&with(config(31, 10, 2), &[])), [31, 10, 2]);
+        assert_eq!(written(&with(strong(31, 3, 8), &[])), [31, 3, 3, 8]);
     }
 
     #[test]
     fn under_policy_0_each_is_an_out_by_seat_1() {
         // What the other policies never reach: each of these tuples, twice.
-        let tuples = [Tuple::proposal(9, 7, 0), Tuple::decision(0, 3, 0x7FFF), weak(0, 0)];
+        let tuples = [Tuple::proposal(9, 7, 0), Tuple::decision(0, 3, 0x7FFF_FFFF), weak(0, 0)];
         let board = with(config(1, 0, 0), &[tuples, tuples].concat());
         let once = "01 01 04 04 01 08 09 08 07 0C 00
-            01 01 04 04 02 08 00 0C 03 10 FF FF 01
+            01 01 04 04 02 08 00 0C 03 10 FF FF FF FF 07
             01 01 03 04 02 08 00 0C 00";
         assert_eq!(written(&board), hex(&format!("01 00 00 {once} {once}")));
         for policy in [config(4, 1, 1), config(4, 1, 2), strong(4, 1, 2), config(4, 1, 4)] {
@@ -261,7 +261,7 @@ mod tests {
         refused(four, &[first, second, Tuple::listed(3, 4, 0, 0x50)]);
         // A position, a seat, a mark or another tuple that nobody may list.
         refused(four, &[Tuple::listed(0, 1, 0, 3)]);
-        for seat in [0, 5, 15, 4_294_967_295] {
+        for seat in [0, 5, 31, 4_294_967_295] {
             refused(four, &[Tuple::listed(1, seat, 0, 3)]);
             refused(four, &[first, Tuple::listed(2, seat, 1, 3)]);
         }
@@ -303,7 +303,7 @@ mod tests {
                 |board| board.config.n = 3,
                 |board| board.config.k = 2,
                 |board| board.config.policy = 6,
-                |board| board.tuples[127].fields[5].value = 1,
+                |board| board.tuples[MOST_TUPLES - 1].fields[5].value = 1,
             ];
             for spoil in spoilt {
                 let mut board = board.clone();
@@ -322,17 +322,17 @@ mod tests {
     #[test]
     fn the_longest_list() {
         let list = |last: u64| -> Vec<Tuple> {
-            let listed = |p| Tuple::listed(p, 1 + p % 15, (1 << 28) + p, 200_001);
+            let listed = |p| Tuple::listed(p, 1 + p % 31, (1 << 28) + p, 200_001);
             (1..=last).map(listed).collect()
         };
         // 27 bytes for each position.
         for last in [1, 2, 111, 112] {
-            let board = with(config(15, 4, LIST), &list(last));
+            let board = with(config(31, 10, LIST), &list(last));
             assert_eq!(written(&board).len(), 3 + 27 * last as usize);
         }
-        assert_eq!(written(&with(config(15, 4, LIST), &list(112))).len(), 3_027);
-        refused(config(15, 4, LIST), &list(113));
-        refused(config(15, 4, LIST), &list(128));
+        assert_eq!(written(&with(config(31, 10, LIST), &list(112))).len(), 3_027);
+        refused(config(31, 10, LIST), &list(113));
+        refused(config(31, 10, LIST), &list(MOST_TUPLES as u64));
     }
 
     #[test]
@@ -356,7 +356,7 @@ mod tests {
         refused(four, &[first, second, Tuple::proposal(0, 1, 3)]);
         written(&with(four, &[first, Tuple::proposal(1, 1, 0x50)]));
         // A seat, a round, a mark or a set that nobody may propose or decide.
-        for seat in [0, 5, 15, 4_294_967_295] {
+        for seat in [0, 5, 31, 4_294_967_295] {
             refused(four, &[Tuple::proposal(0, seat, 3)]);
         }
         for round in [8, 4_294_967_295] {
@@ -415,27 +415,28 @@ mod tests {
     fn the_longest_script() {
         for value in [1 << 28, u32::MAX.into()] {
             let counts = Tuple::of(&[Field::given(Kind::Count, value); MOST_FIELDS]);
-            let board = with(config(15, 4, 0), &[counts; MOST_TUPLES]);
-            assert_eq!(written(&board).len(), 4_995);
+            let board = with(config(31, 10, 0), &[counts; MOST_TUPLES]);
+            assert_eq!(written(&board).len(), 9_987);
         }
-        assert_eq!(LONGEST_DUMP, 4_995);
+        assert_eq!(LONGEST_DUMP, 9_987);
         let counts = Tuple::of(&[Field::given(Kind::Count, (1 << 28) - 1); MOST_FIELDS]);
-        let board = with(config(15, 4, 0), &[counts; MOST_TUPLES]);
-        assert_eq!(written(&board).len(), 4_995 - 6 * 128);
+        let board = with(config(31, 10, 0), &[counts; MOST_TUPLES]);
+        assert_eq!(written(&board).len(), 9_987 - 6 * 256);
     }
 
     #[test]
     fn full_boards_of_eight_rounds() {
         let all = Kind::Seats.last();
-        for (config, offset) in [(config(15, 4, 2), 200_001), (strong(15, 1, 8), 15)] {
+        // A set of 31 seats has five bytes, and an offset three or one.
+        for (config, offset, length) in [(config(31, 10, 2), 200_001, 3_419), (strong(31, 3, 8), 15, 2_908)] {
             let mut tuples = Vec::new();
             for round in 0..=7 {
-                tuples.extend((1..=15).map(|seat| Tuple::proposal(round, seat, offset)));
+                tuples.extend((1..=31).map(|seat| Tuple::proposal(round, seat, offset)));
                 tuples.push(Tuple::decision(round, offset, all));
             }
             let board = with(config, &tuples);
             assert_eq!(board.count, MOST_TUPLES);
-            assert!(written(&board).len() < LONGEST_DUMP);
+            assert_eq!(written(&board).len(), length);
         }
     }
 

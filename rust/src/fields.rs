@@ -1,4 +1,5 @@
-//! Fields, tuples and matching (01, "Fields and tuples").
+//! Fields, tuples and matching (01, "Fields and tuples"; 02, 2.8, for how far a
+//! set of seats goes).
 //!
 //! `Field` and `Tuple` are plain values that can hold anything; `check` tells
 //! whether they hold something that 01 allows, and if not, which fault is the
@@ -11,7 +12,7 @@ use crate::refusal::Refusal;
 pub const MOST_FIELDS: usize = 6;
 
 /// Most seats: a set of seats has a bit for each.
-pub const MOST_SEATS: u64 = 15;
+pub const MOST_SEATS: u64 = 31;
 
 /// The word that starts a proposal.
 pub const PROPOSE: u64 = 1;
@@ -331,7 +332,7 @@ mod tests {
 
     #[test]
     fn ranges_of_the_kinds() {
-        for (kind, last) in Kind::ALL.into_iter().zip([255, 4_294_967_295, 200_001, 32_767]) {
+        for (kind, last) in Kind::ALL.into_iter().zip([255, 4_294_967_295, 200_001, 2_147_483_647]) {
             for role in [Role::Template, Role::Entry] {
                 assert_eq!(Field::given(kind, 0).check(role), Ok(()));
                 assert_eq!(Field::given(kind, last).check(role), Ok(()));

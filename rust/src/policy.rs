@@ -348,7 +348,7 @@ mod tests {
             assert_eq!(answer(cas(0, offset, seats)), UNBORNE, "{why}");
             // With a member above n, in a round that is none, or in two rounds it is not the set alone.
             assert_eq!(answer(cas(0, offset, seats | 1 << 7)), DENIED, "{why}");
-            assert_eq!(answer(cas(0, offset, seats | 1 << 14)), DENIED, "{why}");
+            assert_eq!(answer(cas(0, offset, seats | 1 << 30)), DENIED, "{why}");
             assert_eq!(answer(cas(8, offset, seats)), DENIED, "{why}");
             let two = Call { template: Tuple::decision_template(1), ..cas(0, offset, seats) };
             assert_eq!(answer(two), DENIED, "{why}");
@@ -356,6 +356,26 @@ mod tests {
         for (offset, seats) in [(9, 0b000_0111), (0, 0b011_1011), (0, 0b011_1110)] {
             assert_eq!(answer(cas(0, offset, seats)), Ok(Answer::INSERTED));
         }
+    }
+
+    #[test]
+    fn decisions_of_thirty_one_seats() {
+        // Seats 1 to 10 have proposed 9, seats 11 to 20 7, and seats 21 to 31 5.
+        let offset = |seat: u64| [9, 7, 5][((seat - 1) / 10).min(2) as usize];
+        let proposals: Vec<Tuple> = (1..=31).map(|seat| Tuple::proposal(0, seat, offset(seat))).collect();
+        let answer = |offset, seats| with(31, 10, &proposals).call(&cas(0, offset, seats));
+        assert_eq!(answer(5, 0x7FF0_0000), Ok(Answer::INSERTED));
+        assert_eq!(answer(5, 0x7FE0_0000), UNBORNE, "ten members");
+        assert_eq!(answer(5, 0x7FF8_0000), UNBORNE, "20 has proposed 7");
+        assert_eq!(answer(9, 0x3FF), UNBORNE, "ten members, all that have proposed it");
+        // The mark: 21 seats, of which no offset has more than ten.
+        assert_eq!(answer(0, 0x400F_FFFF), Ok(Answer::INSERTED));
+        assert_eq!(answer(0, 0x7FE0_07FF), Ok(Answer::INSERTED));
+        assert_eq!(answer(0, 0xF_FFFF), UNBORNE, "twenty members");
+        assert_eq!(answer(0, 0x7FFF_FFFF), UNBORNE, "21 to 31 have proposed 5");
+        assert_eq!(answer(0, 1 << 31 | 0x400F_FFFF), Err(Refusal::Value), "there is no seat 32");
+        let thirty = with(30, 9, &proposals[..30]).call(&cas(0, 5, 0x7FF0_0000));
+        assert_eq!(thirty, DENIED, "31 is above n");
     }
 
     #[test]

@@ -91,7 +91,7 @@ fn decision(seat: u32, offset: u64, seats: u64) -> Call {
 /// The cases, in order.
 fn cases() -> Vec<Case> {
     let default = [stray(), split(), signs(), late(), held(), bottom(), one(), full()];
-    default.into_iter().chain([choices(), seventh(), pair()]).collect()
+    default.into_iter().chain([choices(), seventh(), pair(), wide()]).collect()
 }
 
 fn stray() -> Case {
@@ -137,11 +137,11 @@ fn one() -> Case {
     Case { name: "one", n: 1, t: 0, k: 0, rounds: vec![Round::of(7, vec![follows(-40)])] }
 }
 
-/// Eight rounds, in which all fifteen seats follow.
+/// Eight rounds, in which all thirty-one seats follow: at the end the board is full.
 fn full() -> Case {
     let parts = |r: i64| (1..=MOST_SEATS as i64).map(|k| follows(((k + r) % (r + 1)) * 50 - 100)).collect();
     let rounds = (0..=7).map(|r: i64| Round::of(r.unsigned_abs(), parts(r))).collect();
-    Case { name: "full", n: MOST_SEATS, t: 4, k: 0, rounds }
+    Case { name: "full", n: MOST_SEATS, t: 10, k: 0, rounds }
 }
 
 /// What seats 2 to 8 propose of three choices, seats 1 and 9 doing otherwise.
@@ -168,8 +168,20 @@ fn seventh() -> Case {
 }
 
 fn pair() -> Case {
-    let parts = (0..MOST_SEATS as i64).map(|place| follows(place % 2)).collect();
-    Case { name: "pair", n: MOST_SEATS, t: 4, k: 2, rounds: vec![Round::of(0, parts)] }
+    let parts = (0..15).map(|place| follows(place % 2)).collect();
+    Case { name: "pair", n: 15, t: 4, k: 2, rounds: vec![Round::of(0, parts)] }
+}
+
+/// Seats 1, 5, 9, .. 29 are silent, eight of the ten that may stray. The others
+/// propose 0 and 1 in turn, so that only the twenty-first found settles it.
+fn wide() -> Case {
+    let part = |place| match place % 8 {
+        0 | 4 => Part::Silent,
+        1 | 3 | 6 => follows(0),
+        _ => follows(1),
+    };
+    let parts = (0..MOST_SEATS).map(part).collect();
+    Case { name: "wide", n: MOST_SEATS, t: 10, k: 2, rounds: vec![Round::of(0, parts)] }
 }
 
 /// The text of all cases.
@@ -267,10 +279,10 @@ mod tests {
         let headers: Vec<&str> =
             text.lines().filter(|line| line.starts_with(|first: char| first.is_ascii_lowercase())).collect();
         let default = ["stray 4 1", "split 4 1", "signs 4 1", "late 4 1", "held 4 1", "bottom 4 1"];
-        let largest = ["one 1 0", "full 15 4"];
-        let strong = ["choices 9 2 3", "seventh 9 2 3", "pair 15 4 2"];
+        let largest = ["one 1 0", "full 31 10"];
+        let strong = ["choices 9 2 3", "seventh 9 2 3", "pair 15 4 2", "wide 31 10 2"];
         assert_eq!(headers, [&default[..], &largest, &strong].concat());
-        assert!(text.ends_with("\n15 decides c0 o0\n"));
+        assert!(text.ends_with("\n31 decides c0 o0\n"));
     }
 
     #[test]
@@ -333,10 +345,13 @@ mod tests {
     fn eight_full_rounds_fill_the_board() {
         let text = run_case(&full());
         let count = |end: &str| text.lines().filter(|line| line.ends_with(end)).count();
-        assert_eq!(count(": done"), 120);
+        assert_eq!(count(": done"), 248);
         assert_eq!(count(": inserted"), 8);
-        assert_eq!(text.matches(" decides ").count(), 120);
+        assert_eq!(text.matches(" decides ").count(), 248);
         assert_eq!(text.matches("refused").count(), 0);
+        // Eleven seats for an offset; from the third round on none has as many among 21.
+        assert_eq!(count(" o-100 s2047: inserted"), 1);
+        assert_eq!(count(" o_ s2097151: inserted"), 6);
     }
 
     #[test]
@@ -346,6 +361,15 @@ mod tests {
         assert_eq!(calls(&run_case(&choices())), 7 * (1 + 5 + 1) + 4);
         // Without the strays' proposals each reads eight seats.
         assert_eq!(calls(&run_case(&seventh())), 7 * (1 + 8 + 1));
+    }
+
+    #[test]
+    fn the_twenty_first_settles_it() {
+        let text = run_case(&wide());
+        // 23 seats follow: each proposes, reads up to the twenty-first of them, seat 28, and decides.
+        assert_eq!(text.matches(": ").count(), 23 * (1 + 28 + 1));
+        let seats: u64 = [2, 4, 7, 10, 12, 15, 18, 20, 23, 26, 28].map(|seat| 1 << (seat - 1)).iter().sum();
+        assert_eq!(text.matches(&format!(", w2 c0 o0 s{seats}: ")).count(), 23);
     }
 
     #[test]
@@ -359,7 +383,8 @@ mod tests {
 
     #[test]
     fn one_choice_is_decided() {
-        for (case, decision, seats) in [(choices(), "o0", 7), (seventh(), "o2", 7), (pair(), "o0", 15)] {
+        let cases = [(choices(), "o0", 7), (seventh(), "o2", 7), (pair(), "o0", 15), (wide(), "o0", 23)];
+        for (case, decision, seats) in cases {
             let text = run_case(&case);
             assert_eq!(text.matches(&format!(" decides c0 {decision}\n")).count(), seats);
             assert_eq!(text.matches(" decides ").count(), seats);

@@ -127,12 +127,14 @@ mod tests {
             ("03 01 04", "refused 1\n"),
             ("03 01 05", "refused 1\n"),
             ("00 00 00", "refused 1\n"),
-            ("10 00 00", "refused 1\n"),
-            ("0F FF FF FF FF 0F 00", "refused 1\n"),
+            ("20 00 02", "refused 1\n"),
+            ("1F 0B 02", "refused 1\n"),
+            ("1F FF FF FF FF 0F 00", "refused 1\n"),
             ("04 01 00", "board 4 1 0\ntuples 0\n"),
             ("01 00 02", "board 1 0 2\ntuples 0\n"),
             ("04 01 04", "board 4 1 4\ntuples 0\n"),
             ("04 01 05", "board 4 1 5\ntuples 0\n"),
+            ("1F 0A 02", "board 31 10 2\ntuples 0\n"),
         ];
         for (script, text) in rows {
             assert_eq!(run(&hex(script)), text, "{script}");
@@ -156,6 +158,8 @@ mod tests {
             ("09 01 03 08", "refused 1\n"),
             ("04 01 03 02", "board 4 1 3 2\ntuples 0\n"),
             ("0A 01 03 08", "board 10 1 3 8\ntuples 0\n"),
+            ("1F 0A 03 03", "refused 1\n"),
+            ("1F 0A 03 02", "board 31 10 3 2\ntuples 0\n"),
             ("01 00 03 08", "board 1 0 3 8\ntuples 0\n"),
             // Under the other policies a record follows, and policy 6 needs no further number.
             ("04 01 02 02", "board 4 1 2\n1 refused 2\ntuples 0\n"),
@@ -240,6 +244,8 @@ mod tests {
             ("01 05", "1 refused 4\ntuples 0\n"),
             ("01 01 01 04 01 01 01 07", "1 done\n2 refused 5\ntuples 1\n"),
             ("05 01 01 04 01 01 01 01 04 FF 01", "1 refused 6\n2 done\ntuples 1\n"),
+            ("01 01 01 10 80 80 80 80 08 01 01 01 04 01", "1 refused 3\ntuples 0\n"),
+            ("01 01 01 10 80 80 02 01 01 01 10 FF FF FF FF 07", "1 done\n2 done\ntuples 2\n"),
         ];
         for (records, text) in rows {
             let script = hex(&format!("04 01 00 {records}"));
@@ -248,12 +254,23 @@ mod tests {
     }
 
     #[test]
+    fn a_set_with_a_seat_above_n_is_read() {
+        // The set is seat 16 alone, which nobody of fifteen is, and of which 31 seats need ten more.
+        let records = "01 04 04 04 02 08 00 0E 11 04 04 02 08 00 0C 50 10 80 80 02
+            02 02 04 04 02 08 00 0E 11";
+        for (set_up, first, refusal) in [("0F 04 02", "15 4 2", 7), ("1F 0A 02", "31 10 2", 13)] {
+            let text = format!("board {first}\n1 refused {refusal}\n2 none\ntuples 0\n");
+            assert_eq!(run(&hex(&format!("{set_up} {records}"))), text);
+        }
+    }
+
+    #[test]
     fn how_fields_are_shown() {
-        let out = "01 01 06 04 FF 01 08 FF FF FF FF 0F 0C 00 0C 01 0C C0 9A 0C 10 FF FF 01";
+        let out = "01 01 06 04 FF 01 08 FF FF FF FF 0F 0C 00 0C 01 0C C0 9A 0C 10 FF FF FF FF 07";
         let inp = "02 03 06 05 09 0D 0E 0C C0 9A 0C 12";
         let cas = "02 04 01 05 01 0C C1 9A 0C";
         let script = hex(&format!("04 01 00 {out} {inp} {inp} {cas} 01 02 01 0E"));
-        let text = "board 4 1 0\n1 done\n2 found w255 c4294967295 o_ o0 o-100000 s32767\n3 none\n\
+        let text = "board 4 1 0\n1 done\n2 found w255 c4294967295 o_ o0 o-100000 s2147483647\n3 none\n\
             4 inserted\n5 found o100000\ntuples 1\n";
         assert_eq!(run(&script), text);
     }
@@ -266,8 +283,8 @@ mod tests {
         }
         script.resize(LONGEST_SCRIPT, 1);
         let text = run(&script);
-        assert!(text.contains("\n128 done\n129 refused 8\n"));
-        assert!(text.ends_with("refused 2\ntuples 128\n"), "{}", &text[text.len() - 40..]);
+        assert!(text.contains("\n256 done\n257 refused 8\n"));
+        assert!(text.ends_with("refused 2\ntuples 256\n"), "{}", &text[text.len() - 40..]);
         script.push(1);
         assert_eq!(run(&script), "refused 9\n");
         assert_eq!(run(&[0xFF; LONGEST_SCRIPT + 1]), "refused 9\n");

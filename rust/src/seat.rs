@@ -385,6 +385,25 @@ mod tests {
     }
 
     #[test]
+    fn thirty_one_seats() {
+        let (seat, _) = Seat::start(config(31, 10), 31, 0, 9).unwrap();
+        let found = |seats: std::ops::RangeInclusive<u64>, offset: fn(u64) -> u64| {
+            seats.map(move |q| proposal(0, q, offset(q))).collect::<Vec<_>>()
+        };
+        let alike = [vec![Answer::DONE], found(1..=11, |_| 9)].concat();
+        assert_eq!(handed(seat, &alike[..11]).1, asks(&seat, 11));
+        assert_eq!(handed(seat, &alike).1, offers(&seat, 9, 0x7FF));
+        let unlike = [vec![Answer::DONE], found(1..=21, |q| 1 + q % 3)].concat();
+        assert_eq!(handed(seat, &unlike[..21]).1, asks(&seat, 21));
+        assert_eq!(handed(seat, &unlike).1, offers(&seat, 0, 0x1F_FFFF));
+        // Twenty are found up to the last seat, and then the first one.
+        let late = [vec![Answer::DONE], vec![Answer::NONE; 11], found(12..=31, |q| 1 + q % 3)].concat();
+        assert_eq!(handed(seat, &late).1, asks(&seat, 1));
+        let late = [late, found(1..=1, |_| 9)].concat();
+        assert_eq!(handed(seat, &late).1, offers(&seat, 0, 0x7FFF_F801));
+    }
+
+    #[test]
     fn a_choice_is_read_for_until_t_plus_1_have_it() {
         // Six found seats settle nothing, the seventh does.
         let (seat, _) = Seat::start(strong(9, 2, 3), 5, 0, 1).unwrap();

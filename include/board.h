@@ -14,8 +14,8 @@
 #include <stddef.h>
 #include <stdint.h>
 
-/* 207 is document 01 with the requests 2.1 to 2.7 of document 02. It grows with each request that lands: with 2.8 it is 208. */
-#define BOARD_VERSION 207
+/* 208 is document 01 with the requests 2.1 to 2.8 of document 02. It grows with each request that lands: with 2.9 it is 209. */
+#define BOARD_VERSION 208
 
 #ifdef __cplusplus
 #define BOARD_ASSERT static_assert
@@ -29,17 +29,17 @@ extern "C" {
 /* ---- bounds */
 
 enum {
-    BOARD_SEATS = 15,              /* the most seats */
+    BOARD_SEATS = 31,              /* the most seats */
     BOARD_ROUNDS = 8,              /* rounds are 0 to 7 */
     BOARD_CHOICES = 8,             /* the most choices of policy 3: k is 2 to this */
     BOARD_POSITIONS = 112,         /* the last position of the shared list; the first is 1 */
     BOARD_FIELDS = 6,              /* the most fields of a tuple */
-    BOARD_TUPLES = 128,            /* the most tuples of a board */
+    BOARD_TUPLES = 256,            /* the most tuples of a board */
     BOARD_LARGEST_OFFSET = 100000, /* offsets are hundredths of a needle space, from minus this to this */
     BOARD_SCRIPT_BYTES = 65536,    /* the most bytes of a script */
     BOARD_TEXT_BYTES = 1048640,    /* a buffer of this size has room for every script's text */
     BOARD_RECORD_BYTES = 80,       /* and one of this size for every record */
-    BOARD_DUMP_BYTES = 4995        /* and one of this size for every board written back as a script */
+    BOARD_DUMP_BYTES = 9987        /* and one of this size for every board written back as a script */
 };
 
 /* ---- numbers, by what they are: each name has the sort behind BOARD_ */
@@ -123,7 +123,7 @@ static inline const char *board_refusal_text(uint64_t refusal) {
     case 5: return "a tuple has no field or more than six, an entry has a field that is not given, or an unused part is not zero";
     case 6: return "the seat is 0 or above n";
     case 7: return "the policy does not permit the call, for another cause than 12 and 13";
-    case 8: return "an out, or a cas that nothing matches, on 128 tuples";
+    case 8: return "an out, or a cas that nothing matches, on 256 tuples";
     case 9: return "the script has more than 65,536 bytes";
     case 10: return "the buffer is too short";
     case 11: return "the answer does not fit the seat's state";
@@ -265,7 +265,7 @@ BOARD_AT(board_config, n, 0);
 BOARD_AT(board_config, t, 8);
 BOARD_AT(board_config, policy, 16);
 BOARD_AT(board_config, k, 24);
-BOARD_SIZE(board_space, 13352);
+BOARD_SIZE(board_space, 26664);
 BOARD_AT(board_space, config, 0);
 BOARD_AT(board_space, count, 32);
 BOARD_AT(board_space, tuples, 40);
@@ -273,30 +273,30 @@ BOARD_SIZE(board_reply, 112);
 BOARD_AT(board_reply, outcome, 0);
 BOARD_AT(board_reply, refusal, 4);
 BOARD_AT(board_reply, tuple, 8);
-BOARD_SIZE(board_opened, 13360);
+BOARD_SIZE(board_opened, 26672);
 BOARD_AT(board_opened, refusal, 0);
 BOARD_AT(board_opened, space, 8);
-BOARD_SIZE(board_applied, 13464);
+BOARD_SIZE(board_applied, 26776);
 BOARD_AT(board_applied, reply, 0);
 BOARD_AT(board_applied, space, 112);
 BOARD_SIZE(board_read_call, 232);
 BOARD_AT(board_read_call, refusal, 0);
 BOARD_AT(board_read_call, next, 8);
 BOARD_AT(board_read_call, call, 16);
-BOARD_SIZE(board_process, 176);
+BOARD_SIZE(board_process, 304);
 BOARD_AT(board_process, config, 0);
 BOARD_AT(board_process, process, 32);
 BOARD_AT(board_process, phase, 36);
 BOARD_AT(board_process, round, 40);
 BOARD_AT(board_process, value, 48);
 BOARD_AT(board_process, found, 56);
-BOARD_SIZE(board_step, 408);
+BOARD_SIZE(board_step, 536);
 BOARD_AT(board_step, next, 0);
 BOARD_AT(board_step, refusal, 4);
 BOARD_AT(board_step, bottom, 8);
 BOARD_AT(board_step, hundredths, 12);
 BOARD_AT(board_step, process, 16);
-BOARD_AT(board_step, call, 192);
+BOARD_AT(board_step, call, 320);
 
 /* no struct has a byte of padding: the size is the sum of the members' */
 #define BOARD_SUM(type, bytes) BOARD_ASSERT(sizeof(type) == (bytes), #type)

@@ -8,6 +8,7 @@ use common::denials::{Cause, Denials};
 use common::dumps::{board_with, near_miss, Dumps};
 use common::lists::{self, near_call, odd_listed};
 use common::reached::{weak_decision, Flaw};
+use common::wide::Wide;
 use common::*;
 use reference::board::MOST_TUPLES;
 use reference::config::{BARE, DEFAULT, LIST, STRONG, WAIT_FREE, WEAK};
@@ -212,7 +213,7 @@ fn calls_with_wrong_fields() {
 fn odd_tuple(dice: &mut Dice, config: &Config) -> Tuple {
     let (round, seat) = (
         dice.pick(&[0, 0, 0, 1, 7, 8]),
-        dice.pick(&[0, 1, 1, 2, 3, 4, 5, MOST_SEATS, MOST_SEATS + 1, 4_294_967_295]),
+        dice.pick(&[0, 1, 1, 2, 3, 4, 5, MOST_SEATS / 2 + 1, MOST_SEATS, MOST_SEATS + 1, 4_294_967_295]),
     );
     let offset = near_offset(dice, config);
     if [LIST, WAIT_FREE].contains(&config.policy) || dice.one_in(20) {
@@ -224,7 +225,11 @@ fn odd_tuple(dice: &mut Dice, config: &Config) -> Tuple {
     }
     match dice.below(8) {
         0 => good_tuple(dice, true),
-        1 => Tuple::decision(round, offset, dice.pick(&[0, 1, 3, 15, 31, Kind::Seats.last()])),
+        1 => Tuple::decision(
+            round,
+            offset,
+            dice.pick(&[0, 1, 3, 15, 31, 1 << (MOST_SEATS - 1), Kind::Seats.last()]),
+        ),
         2 => Tuple::of(&[
             Field::given(Kind::Word, 2),
             Field::given(Kind::Count, round),
@@ -248,11 +253,21 @@ fn bearers(board: &Board, round: u64, offset: u64) -> u64 {
     standing.fold(0, |set, (_, seat, _)| set | 1 << (seat - 1))
 }
 
+/// A cas that policy 1 permits, but for its round or the mark.
+fn weak_call(dice: &mut Dice, board: &Board, seat: u32) -> Call {
+    let round = dice.below(LAST_ROUND + 2);
+    let entry = weak_decision(round, near_offset(dice, &board.config));
+    let mut template = entry;
+    template.fields[2] = Field::open(Kind::Offset);
+    Call::cas(seat, template, entry)
+}
+
 /// A call that aims at such tuples.
 fn aimed_call(dice: &mut Dice, board: &Board) -> Call {
     let n = board.config.n.clamp(1, MOST_SEATS);
     let seat = if dice.one_in(10) { dice.pick(&SEATS) } else { 1 + dice.below(n) as u32 };
     match board.config.policy {
+        WEAK if !dice.one_in(4) => return weak_call(dice, board, seat),
         LIST if !dice.one_in(8) => return near_call(dice, board, seat),
         WAIT_FREE if !dice.one_in(8) => return announced::near_call(dice, board, seat),
         _ => {}
@@ -312,7 +327,7 @@ fn odd_board(dice: &mut Dice) -> Board {
         0 => MOST_TUPLES,
         1 => MOST_TUPLES - 1,
         2 => dice.below(MOST_TUPLES as u64 + 1) as usize,
-        _ => dice.below(24) as usize,
+        _ => dice.below(48) as usize,
     };
     let proposals = if dice.one_in(2) { odd_proposals(dice, &config) } else { Vec::new() };
     for place in 0..held {
@@ -326,8 +341,8 @@ fn odd_board(dice: &mut Dice) -> Board {
     if dice.one_in(5) {
         match dice.below(4) {
             0 => {
-                let counts = [0, 1, MOST_TUPLES - 1, MOST_TUPLES, MOST_TUPLES + 1, 255, usize::MAX];
-                board.count = dice.pick(&counts);
+                let most = MOST_TUPLES;
+                board.count = dice.pick(&[0, 1, most / 2, most - 1, most, most + 1, 2 * most, usize::MAX]);
             }
             1 => {
                 let (place, part) = (dice.below(MOST_TUPLES as u64) as usize, dice.below(TUPLE_PARTS));
@@ -347,7 +362,7 @@ fn odd_board(dice: &mut Dice) -> Board {
 fn boards_that_no_run_makes() {
     let mut dice = Dice::new(4);
     let (mut inputs, mut outcomes) = (0, [0usize; ANSWERS]);
-    let mut denials = Denials::default();
+    let (mut denials, mut wide) = (Denials::default(), Wide::default());
     // What is inserted or held under policies 2 to 5, and the mark, which is so under policy 2.
     let (mut entries, mut marks) = ([0usize; 4], 0);
     for _ in 0..42_000 {
@@ -358,6 +373,7 @@ fn boards_that_no_run_makes() {
             let before = board.clone();
             let answer = compare_call(&mut board, &call);
             denials.note(&before, &call, &answer);
+            wide.note(&before, &call, &answer);
             outcomes[refusal_of(&answer)] += 1;
             if matches!(answer.kind, AnswerKind::Inserted | AnswerKind::Held) && policy >= DEFAULT {
                 entries[(policy - DEFAULT) as usize] += 1;
@@ -370,6 +386,12 @@ fn boards_that_no_run_makes() {
     count("calls on boards that no run makes", inputs, format!("answered, refused 1 to 13: {outcomes:?}"));
     println!("         inserted or held under policies 2 to 5: {entries:?}, {marks} of the mark");
     assert!(entries.iter().all(|often| *often > 200) && marks > 20, "{entries:?} {marks}");
+    wide.print();
+    wide.assert_boards(&[BARE], [100, 0, 20]);
+    wide.assert_boards(&[WEAK, DEFAULT, STRONG, LIST], [100, 100, 20]);
+    wide.assert_boards(&[WAIT_FREE], [100, 100, 5]);
+    wide.assert_sets(50);
+    wide.assert_set_ups(10);
     denials.announced.assert_each(&lists::Cause::UNDER_5, 25);
     assert!(outcomes[12] > 200 && outcomes[13] > 200, "{outcomes:?}");
 }
@@ -478,7 +500,7 @@ fn near_cas(dice: &mut Dice, board: &Board, round: u64) -> Call {
 fn denials_and_their_causes() {
     let mut dice = Dice::new(14);
     let (mut inputs, mut outcomes) = (0, [0usize; ANSWERS]);
-    let mut denials = Denials::default();
+    let (mut denials, mut wide) = (Denials::default(), Wide::default());
     for _ in 0..5_000 {
         let round = dice.pick(&[0, 1, 6, 7, 8]);
         let before = board_of_a_round(&mut dice, round);
@@ -494,6 +516,7 @@ fn denials_and_their_causes() {
             }
             let answer = compare_call(&mut before.clone(), &call);
             denials.note(&before, &call, &answer);
+            wide.note(&before, &call, &answer);
             outcomes[refusal_of(&answer)] += 1;
             inputs += 1;
         }
@@ -504,10 +527,13 @@ fn denials_and_their_causes() {
     denials.assert_each(DEFAULT, &Cause::DEFAULT_ONLY, 25);
     denials.assert_each(STRONG, &Cause::BOTH, 25);
     denials.assert_each(STRONG, &Cause::STRONG_ONLY, 25);
+    wide.print();
+    wide.assert_boards(&[DEFAULT, STRONG], [25, 100, 10]);
+    wide.assert_sets(100);
 }
 
-/// How many tuples the boards hold that are then made dirty.
-const HELD: [usize; 6] = [0, 1, 2, 64, MOST_TUPLES - 1, MOST_TUPLES];
+/// How many tuples the boards hold that are then made dirty: few or none, and half of what they may or more.
+const HELD: [[usize; 2]; 3] = [[0, MOST_TUPLES / 2], [1, MOST_TUPLES - 1], [2, MOST_TUPLES]];
 
 /// Boards that are well formed but for one number: whatever the call, it is refused 1, and the board comes back as it was. Nor are they
 /// written back as scripts, whatever the buffer.
@@ -528,7 +554,7 @@ fn boards_with_dirty_places() {
         assert_eq!(compare_dump(&board, &vec![0xA5; room]), Err(Refusal::Unsound), "{board:?}");
         inputs += 1;
     };
-    for (policy, held) in (0..=5).flat_map(|policy| HELD.map(|held| (policy, held))) {
+    for (policy, held) in (0..=5).flat_map(|policy| HELD[policy as usize % 3].map(|held| (policy, held))) {
         let config = four_seats(policy);
         let mut clean = Board::fresh(config).unwrap();
         clean.tuples[..held].fill_with(|| odd_tuple(&mut dice, &config));
@@ -541,7 +567,8 @@ fn boards_with_dirty_places() {
                 try_board(&mut dice, board);
             }
         }
-        for count in HELD.into_iter().chain([MOST_TUPLES + 1, 255, 1 << 20, usize::MAX]) {
+        let beyond = [MOST_TUPLES + 1, 2 * MOST_TUPLES, 1 << 20, usize::MAX];
+        for count in HELD.into_iter().flatten().chain(beyond) {
             if count != held {
                 try_board(&mut dice, Board { count, ..clean.clone() });
             }
@@ -698,7 +725,7 @@ fn the_worked_board_and_the_longest_script() {
         let length = dumps.note(&board).expect("every board is reached").len();
         assert_eq!(length == LONGEST_DUMP, value >= 1 << 28, "{length}");
     }
-    assert_eq!(LONGEST_DUMP, 4_995);
+    assert_eq!(LONGEST_DUMP, 9_987);
     count("boards written back", dumps.boards(), "the worked script's and the longest".into());
 }
 
@@ -744,7 +771,7 @@ fn seats_started() {
 }
 
 /// How many seats the states have.
-const SIZES: [u64; 12] = [1, 2, 3, 4, 4, 4, 5, 7, 9, 10, 13, MOST_SEATS];
+const SIZES: [u64; 17] = [1, 2, 3, 4, 4, 4, 5, 7, 9, 10, 13, 16, 20, 22, 25, 28, MOST_SEATS];
 
 /// A state of any phase: near what the procedure reaches, or any.
 fn any_state(dice: &mut Dice) -> Seat {
@@ -805,7 +832,7 @@ fn any_state(dice: &mut Dice) -> Seat {
 }
 
 /// A state that the procedure reaches, of any phase; every step to it by both.
-fn reached_state(dice: &mut Dice) -> Seat {
+fn reached_state(dice: &mut Dice, wide: &mut Wide) -> Seat {
     let (n, policy) = (dice.pick(&SIZES), dice.pick(&[DEFAULT, STRONG]));
     let config = config_of(dice, n, policy);
     let (process, round) = (1 + dice.below(n) as u32, dice.below(8));
@@ -814,7 +841,9 @@ fn reached_state(dice: &mut Dice) -> Seat {
     let (mut seat, _) = compare_start(config, process, round, offset).expect("a seat that may start");
     for _ in 0..dice.below(n + 4) {
         let answer = fitting_answer(dice, &seat);
-        (seat, _) = compare_hand(&seat, &answer).expect("a fitting answer");
+        let result = compare_hand(&seat, &answer);
+        wide.note_step(&seat, &result);
+        (seat, _) = result.expect("a fitting answer");
     }
     seat
 }
@@ -855,11 +884,11 @@ fn change_state(dice: &mut Dice, seat: &mut Seat) {
 }
 
 /// A state: reached, reached and then changed in one part, or any.
-fn state(dice: &mut Dice) -> Seat {
+fn state(dice: &mut Dice, wide: &mut Wide) -> Seat {
     if dice.one_in(2) {
         return any_state(dice);
     }
-    let mut seat = reached_state(dice);
+    let mut seat = reached_state(dice, wide);
     if dice.one_in(2) {
         change_state(dice, &mut seat);
     }
@@ -914,14 +943,17 @@ fn any_kind(dice: &mut Dice) -> AnswerKind {
 fn states_and_answers() {
     let mut dice = Dice::new(5);
     let (mut inputs, mut results) = (0, [[0usize; 3]; 2]);
+    let mut wide = Wide::default();
     for _ in 0..60_000 {
-        let mut seat = state(&mut dice);
+        let mut seat = state(&mut dice, &mut wide);
         let results = &mut results[usize::from(seat.config.policy == STRONG)];
         // Onward from it, as long as answers fit.
         for _ in 0..3 {
             let answer = answer(&mut dice, &seat);
             inputs += 1;
-            match compare_hand(&seat, &answer) {
+            let result = compare_hand(&seat, &answer);
+            wide.note_step(&seat, &result);
+            match result {
                 Ok((next, _)) => {
                     results[0] += 1;
                     seat = next;
@@ -938,6 +970,9 @@ fn states_and_answers() {
     let [others, strong] = results;
     let note = format!("goes on, refused 1, refused 11: {others:?}, under policy 3 {strong:?}");
     count("states and answers handed", inputs, note);
+    wide.print();
+    wide.assert_given(100);
+    wide.assert_set_ups(10);
 }
 
 /// Numbers that stand for no phase, no outcome or no refusal, and values beside a phase that has none.
@@ -946,7 +981,7 @@ fn numbers_that_are_no_case() {
     let mut dice = Dice::new(6);
     let mut inputs = 0;
     for _ in 0..20_000 {
-        let seat = state(&mut dice);
+        let seat = state(&mut dice, &mut Wide::default());
         let answer = answer(&mut dice, &seat);
         let (mut process, mut reply) = (flat::process(&seat), flat::reply(&answer));
         if dice.one_in(2) {
@@ -990,7 +1025,7 @@ fn numbers_that_are_no_case() {
 fn set_ups_of_scripts() {
     let mut dice = Dice::new(7);
     let mut inputs = 0;
-    let numbers: [&[u8]; 22] = [
+    let numbers: [&[u8]; 23] = [
         &[0],
         &[1],
         &[2],
@@ -1001,6 +1036,7 @@ fn set_ups_of_scripts() {
         &[8],
         &[9],
         &[10],
+        &[11],
         &[MOST_SEATS as u8 - 1],
         &[MOST_SEATS as u8],
         &[MOST_SEATS as u8 + 1],

@@ -10,6 +10,7 @@ use common::dumps::{board_with, near_miss, Dumps};
 use common::lists::{near_call, odd_list, Cause};
 use common::reached::Flaw;
 use common::*;
+use reference::board::MOST_TUPLES;
 use reference::config::{LIST, WAIT_FREE};
 use reference::fields::MOST_SEATS;
 use reference::list::LAST_POSITION;
@@ -122,16 +123,16 @@ fn lists_of_112_positions() {
         }
         assert_eq!(board.count, 112);
         // A list that goes on as no run can.
-        for position in 113..=128 {
+        for position in 113..=MOST_TUPLES as u64 {
             board.tuples[board.count] = cas(position).entry;
             board.count += 1;
             assert_eq!(dumps.note(&board), Err(Refusal::Unreached));
             assert_eq!(compare_call(&mut board, &cas(position + 1)), Answer::from(Refusal::Denied));
         }
     }
-    println!("compared {:>7} lists of up to 128 positions written back", dumps.boards());
+    println!("compared {:>7} lists of up to {MOST_TUPLES} positions written back", dumps.boards());
     dumps.print();
-    dumps.assert_each(LIST, &[Flaw::Beyond], 3 * 16);
+    dumps.assert_each(LIST, &[Flaw::Beyond], 3 * (MOST_TUPLES - 112));
 }
 
 #[test]
@@ -176,7 +177,7 @@ fn what_is_owed() {
         (&[(1, 7, 5), (1, 8, 9)], &[], Some((1, 7, 5))),
         (&[(1, 7, mark), (1, 8, 9)], &[], Some((1, 8, 9))),
         (&[(1, 7, mark)], &[], None),
-        (&[(2, 7, 5), (5, 7, 5), (0, 7, 5), (16, 7, 5)], &[], None),
+        (&[(2, 7, 5), (5, 7, 5), (0, 7, 5), (MOST_SEATS + 1, 7, 5)], &[], None),
         (&[(1, 7, 5)], &[(50, 1, 7, 5)], None),
         (&[(1, 7, 5)], &[(50, 1, 7, 9)], None),
         (&[(1, 7, 5)], &[(200, 1, 7, mark)], None),

@@ -222,7 +222,7 @@ fn run_of_a_list(dice: &mut Dice, denials: &mut Denials) -> [usize; 2] {
     let n = 1 + dice.below(MOST_SEATS);
     let mut board = Board::fresh(config_of(dice, n, LIST)).unwrap();
     let mut race = Race::new(dice, &board.config);
-    for _ in 0..race.calls(dice) {
+    for _ in 0..race.calls(dice, 6_000) {
         let call = race.call(dice, &board);
         let before = board.clone();
         let answer = Answer::from(board.call(&call));

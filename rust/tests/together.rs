@@ -14,11 +14,13 @@ use common::denials::{Cause, Denials};
 use common::dumps::{near_miss, Dumps};
 use common::lists::{self, Race};
 use common::reached::Flaw;
+use common::wide::Wide;
 use common::*;
+use reference::board::MOST_TUPLES;
 use reference::config::{BARE, DEFAULT, LIST, STRONG, WAIT_FREE, WEAK};
 use reference::fields::MOST_SEATS;
 use reference::list::LAST_POSITION;
-use reference::records::record_of;
+use reference::records::{record_of, LONGEST_RECORD};
 use reference::script::LONGEST_SCRIPT;
 use reference::{
     Answer, AnswerKind, Board, Call, Config, Field, Kind, Offset, Phase, Refusal, Seat, Step, Tuple,
@@ -50,6 +52,7 @@ struct Counts {
     /// How many calls were refused 8.
     full: usize,
     denials: Denials,
+    wide: Wide,
     /// The runs' boards written back, and boards beside them.
     dumps: Dumps,
     misses: Dumps,
@@ -112,6 +115,7 @@ impl Run {
         let before = self.board.clone();
         let answer = compare_call(&mut self.board, call);
         counts.denials.note(&before, call, &answer);
+        counts.wide.note(&before, call, &answer);
         counts.calls += 1;
         if let Ok(record) = record_of(call) {
             self.script.extend(record);
@@ -275,10 +279,10 @@ fn stray_call(dice: &mut Dice, run: &Run, process: u32, round: u64, offsets: &[u
     call
 }
 
-fn run_of_seats(dice: &mut Dice, policy: u64, counts: &mut Counts) {
-    let n = 1 + dice.below(MOST_SEATS);
-    let mut run = Run::new(config_of(dice, n, policy));
-    let t = run.config.t;
+/// Policies 2 and 3: following seats among as many strays as there may be, each number's turn coming so often on average.
+fn run_of_seats(dice: &mut Dice, config: Config, turns: u64, counts: &mut Counts) {
+    let mut run = Run::new(config);
+    let Config { n, t, .. } = config;
     let offsets = offsets_of(dice, &run.config);
     let mut strays: Vec<u64> = (1..=n).collect();
     for place in (1..strays.len()).rev() {
@@ -300,7 +304,10 @@ fn run_of_seats(dice: &mut Dice, policy: u64, counts: &mut Counts) {
         }
         followers.insert(k, Follower { rounds, now: None });
     }
-    for _ in 0..n * 70 {
+    for _ in 0..n * turns {
+        if run.script.len() + LONGEST_RECORD > LONGEST_SCRIPT {
+            break;
+        }
         let process = dice.below(n + 2);
         let Some(follower) = followers.get_mut(&process) else {
             let busy: Vec<u64> =
@@ -355,8 +362,8 @@ fn run_of_seats(dice: &mut Dice, policy: u64, counts: &mut Counts) {
     run.dump_beside(dice, counts);
 }
 
-/// Policies 0 and 1: calls that meet each other, on few values. Some runs under policy 0 fill the board, and then take off and append in
-/// turn.
+/// Policies 0 and 1: calls that meet each other, on few values. Some runs under policy 0 are longer and fill the board, and then take off
+/// and append in turn.
 fn run_of_others(dice: &mut Dice, counts: &mut Counts) {
     let (n, policy) = (1 + dice.below(MOST_SEATS), dice.below(2));
     let mut run = Run::new(config_of(dice, n, policy));
@@ -373,7 +380,7 @@ fn run_of_others(dice: &mut Dice, counts: &mut Counts) {
         let fields: Vec<Field> = (0..1 + dice.below(2)).map(|_| field(dice, entry)).collect();
         Tuple::of(&fields)
     };
-    for _ in 0..220 {
+    for _ in 0..if fills { 2 * MOST_TUPLES } else { 220 } {
         let seat = dice.below(run.config.n + 2) as u32;
         let call = if run.config.policy == 1 && !dice.one_in(8) {
             let (round, offset) = (dice.below(9), dice.below(4));
@@ -390,7 +397,7 @@ fn run_of_others(dice: &mut Dice, counts: &mut Counts) {
             match dice.below(8) {
                 0..=3 => Call::out(seat, tuple(dice, true)),
                 4 if fills => Call::out(seat, tuple(dice, true)),
-                5 if fills && run.held < 120 => Call::out(seat, tuple(dice, true)),
+                5 if fills && run.held < MOST_TUPLES - 8 => Call::out(seat, tuple(dice, true)),
                 4 => Call::rdp(seat, tuple(dice, false)),
                 5 => Call::inp(seat, tuple(dice, false)),
                 _ => Call::cas(seat, tuple(dice, false), tuple(dice, true)),
@@ -408,7 +415,7 @@ fn run_of_a_list(dice: &mut Dice, counts: &mut Counts) -> [usize; 3] {
     let n = 1 + dice.below(MOST_SEATS);
     let mut run = Run::new(config_of(dice, n, LIST));
     let mut race = Race::new(dice, &run.config);
-    for _ in 0..race.calls(dice) {
+    for _ in 0..race.calls(dice, 2_400) {
         let call = race.call(dice, &run.board);
         let answer = run.call(&call, counts);
         race.hear(dice, &call, &answer);
@@ -440,21 +447,30 @@ fn run_of_announcements(dice: &mut Dice, counts: &mut Counts) -> Came {
     helping.came
 }
 
-/// So many runs under a policy, and what was counted in them.
-fn runs_under(policy: u64, seed: u64, runs: usize) -> Counts {
+/// So many runs under a policy, then some of all seats and as many strays as there may be, and what was counted in them.
+fn runs_under(policy: u64, seed: u64, runs: usize, most: &[Config]) -> Counts {
     let mut dice = Dice::new(seed);
     let mut counts = Counts::default();
     for _ in 0..runs {
-        run_of_seats(&mut dice, policy, &mut counts);
+        let n = 1 + dice.below(MOST_SEATS);
+        let config = config_of(&mut dice, n, policy);
+        run_of_seats(&mut dice, config, 70, &mut counts);
     }
+    let others = counts.decided;
+    for config in most {
+        run_of_seats(&mut dice, *config, 200, &mut counts);
+    }
+    let (runs, of_most) = (runs + most.len(), counts.decided - others);
     let Counts { calls, handings, scripts, decided, marks, raced: [offsets, bottoms], refused, .. } = counts;
     println!("compared {calls:>7} calls of {runs} runs under policy {policy}: {refused} refused");
     counts.denials.print();
-    println!("         {decided:>7} rounds decided: {marks} with the mark");
+    counts.wide.print();
+    println!("         {decided:>7} rounds decided: {marks} with the mark; {of_most} in the {} runs of {MOST_SEATS} seats", most.len());
     println!("         strays' cas decided {offsets} with an offset and {bottoms} with the mark");
     println!("compared {handings:>7} answers handed to following seats");
     println!("compared {scripts:>7} scripts of these runs, whole, damaged, into short buffers");
     counts.print_dumps();
+    assert!(of_most >= 3 * most.len(), "{of_most}");
     counts
 }
 
@@ -474,7 +490,7 @@ const IN_RUNS: [Cause; 10] = [
 
 #[test]
 fn runs_under_policy_2() {
-    let counts = runs_under(DEFAULT, 11, 140);
+    let counts = runs_under(DEFAULT, 11, 70, &[Config { n: MOST_SEATS, t: 10, policy: DEFAULT, k: 0 }; 4]);
     counts.assert_dumps(DEFAULT, 300, 5);
     let Counts { decided, marks, raced, denials, .. } = counts;
     assert!(decided > 300 && marks > 30, "{decided} {marks}");
@@ -486,7 +502,8 @@ fn runs_under_policy_2() {
 
 #[test]
 fn runs_under_policy_3() {
-    let counts = runs_under(STRONG, 13, 80);
+    let most = [(2, 10), (3, 7), (8, 3)].map(|(k, t)| Config { n: MOST_SEATS, t, policy: STRONG, k });
+    let counts = runs_under(STRONG, 13, 40, &most);
     counts.assert_dumps(STRONG, 150, 5);
     let Counts { decided, marks, raced, denials, .. } = counts;
     assert!(decided > 150 && marks == 0 && raced[0] > 15 && raced[1] == 0, "{decided} {marks} {raced:?}");
@@ -519,11 +536,11 @@ fn runs_under_policy_4() {
 fn runs_under_policy_5() {
     let mut dice = Dice::new(26);
     let (mut counts, mut came) = (Counts::default(), Came::default());
-    for _ in 0..150 {
+    for _ in 0..100 {
         came.add(&run_of_announcements(&mut dice, &mut counts));
     }
     let Counts { calls, scripts, refused, .. } = counts;
-    println!("compared {calls:>7} calls of 150 runs under policy 5: {refused} refused");
+    println!("compared {calls:>7} calls of 100 runs under policy 5: {refused} refused");
     counts.denials.print();
     came.print();
     println!("compared {scripts:>7} scripts of these runs, whole, damaged, into short buffers");

@@ -4,6 +4,7 @@
 use std::collections::{BTreeMap, BTreeSet};
 
 use reference::board::MOST_TUPLES;
+use reference::fields::MOST_SEATS;
 use reference::list::LAST_POSITION;
 use reference::{Answer, AnswerKind, Board, Call, Config, Field, Kind, Offset, Refusal, Tuple};
 
@@ -14,7 +15,7 @@ use super::{good_field, good_tuple, lists, spoil, Dice, PARTS, SEATS};
 /// What is owed at a position: the oldest announcement of the seat that differs from it by a multiple of n, unless its seat and serial are
 /// listed.
 pub fn owed(board: &Board, position: u64) -> Option<Tuple> {
-    let n = board.config.n.clamp(1, 15);
+    let n = board.config.n.clamp(1, MOST_SEATS);
     let preferred = (1..=n).find(|seat| seat % n == position % n)?;
     let oldest = oldest(board, preferred)?;
     let serial = oldest.fields[2].value;
@@ -468,7 +469,7 @@ fn near_seat(dice: &mut Dice, board: &Board) -> u64 {
     if dice.one_in(4) {
         return dice.pick(&SEATS).into();
     }
-    dice.below(board.config.n.min(16) + 2)
+    dice.below(board.config.n.min(MOST_SEATS + 1) + 2)
 }
 
 /// What has the fields of an announcement on this board, each within its kind's range.
@@ -554,8 +555,9 @@ fn near_cas(dice: &mut Dice, board: &Board, process: u32) -> Call {
 /// An announcement on a board handed in: of any seat, now and then of what these tuples list, with its shift or another, or with the mark;
 /// seldom what only looks like one.
 pub fn odd_announced(dice: &mut Dice, config: &Config, tuples: &[Tuple]) -> Tuple {
-    let n = config.n.clamp(1, 15);
-    let mut seat = if dice.one_in(8) { dice.pick(&[0, n + 1, 15, 16]) } else { 1 + dice.below(n) };
+    let n = config.n.clamp(1, MOST_SEATS);
+    let mut seat =
+        if dice.one_in(8) { dice.pick(&[0, n + 1, MOST_SEATS, MOST_SEATS + 1]) } else { 1 + dice.below(n) };
     let (mut serial, mut shift) = (dice.below(6), any_shift(dice));
     let list: Vec<_> = tuples.iter().filter_map(looks_listed).collect();
     if !list.is_empty() && dice.one_in(4) {
@@ -581,7 +583,7 @@ pub fn odd_announced(dice: &mut Dice, config: &Config, tuples: &[Tuple]) -> Tupl
 /// A list and announcements handed in: mostly what no run makes, at times on a full board.
 pub fn odd_tuples(dice: &mut Dice, config: &Config) -> Vec<Tuple> {
     let mut tuples = odd_list(dice, config);
-    for _ in 0..dice.below(2 * config.n.clamp(1, 15) + 2) {
+    for _ in 0..dice.below(2 * config.n.clamp(1, MOST_SEATS) + 2) {
         let tuple = odd_announced(dice, config, &tuples);
         let place = dice.below(tuples.len() as u64 + 1) as usize;
         if tuples.len() < MOST_TUPLES {

@@ -6,13 +6,14 @@ use std::collections::BTreeMap;
 use reference::board::MOST_TUPLES;
 use reference::config::{BARE, LIST, STRONG, WAIT_FREE, WEAK};
 use reference::dump::LONGEST_DUMP;
-use reference::records::Reader;
+use reference::records::read_record;
 use reference::script::run;
 use reference::sys::Crosses;
 use reference::{flat, sys};
 use reference::{Answer, Board, Code, Config, Kind, Refusal, Tuple};
 
 use super::reached::{flaw, Flaw};
+use super::wide::is_wide;
 use super::{compare_dump, Dice, CHOICES, POLICIES, VALUES};
 
 /// How often boards were written back, and refused 1, 15, 14 and 10.
@@ -29,7 +30,10 @@ pub struct Came {
 #[derive(Default)]
 pub struct Dumps {
     came: BTreeMap<u64, Came>,
+    /// Of boards that hold more than half of what they may: how many were written, and how many refused 14 or 15.
+    wide: BTreeMap<u64, [usize; 2]>,
     flaws: BTreeMap<(u64, Flaw), usize>,
+    last: Option<Ran>,
 }
 
 impl Dumps {
@@ -49,7 +53,7 @@ impl Dumps {
                     came.short += 1;
                 }
                 assert_eq!(compare_dump(board, &vec![0x5A; script.len()]).as_ref(), Ok(script));
-                ends_in(script, board);
+                self.last = Some(ends_in(script, board, self.last.take()));
                 came.written += 1;
             }
             Err(refusal) => {
@@ -64,6 +68,9 @@ impl Dumps {
         }
         if let Some(flaw) = flaw {
             *self.flaws.entry((policy, flaw)).or_default() += 1;
+        }
+        if is_wide(board) && answer != Err(Refusal::Unsound) {
+            self.wide.entry(policy).or_default()[usize::from(answer.is_err())] += 1;
         }
         answer
     }
@@ -99,6 +106,18 @@ impl Dumps {
                 println!("         refused 14 under policy {policy}: {}", flaws.join(", "));
             }
         }
+        if !self.wide.is_empty() {
+            println!(
+                "         on more than half of the places, by policy, written and refused 14 or 15: {:?}",
+                self.wide
+            );
+        }
+    }
+
+    /// So many boards that hold more than half of what they may were written, and so many refused 14 or 15, at least under this policy.
+    pub fn assert_wide(&self, policy: u64, [written, refused]: [usize; 2]) {
+        let came = self.wide.get(&policy).copied().unwrap_or_default();
+        assert!(came[0] >= written && came[1] >= refused, "{came:?} under policy {policy}");
     }
 
     /// Each answer that can come did so often at least under this policy, but 10, which each written board gives: all but 14 under policy 0,
@@ -123,37 +142,55 @@ impl Dumps {
     }
 }
 
-/// Runs a script by both, call by call and as a whole: each call appends a tuple, and the last one leaves this board.
-fn ends_in(script: &[u8], board: &Board) {
-    let Config { n, t, policy, k } = board.config;
-    let numbers = if policy == STRONG { vec![n, t, policy, k] } else { vec![n, t, policy] };
-    // Each number of a sound set-up takes one byte.
-    assert_eq!(script[..numbers.len()].iter().map(|byte| u64::from(*byte)).collect::<Vec<_>>(), numbers);
+/// A script that was run by both, and the boards in which it ended.
+struct Ran {
+    script: Vec<u8>,
+    space: sys::Space,
+    plain: Board,
+}
 
-    let opened = sys::fresh(flat::config(&board.config));
-    assert_eq!(opened.refusal, 0, "{script:02X?}");
-    let (mut space, mut at) = (opened.space, numbers.len());
-    while at < script.len() {
+impl Ran {
+    /// A script without calls.
+    fn fresh(config: Config, numbers: &[u64]) -> Ran {
+        let opened = sys::fresh(flat::config(&config));
+        assert_eq!(opened.refusal, 0, "{config:?}");
+        // Each number of a sound set-up takes one byte.
+        let script = numbers.iter().map(|number| *number as u8).collect();
+        Ran { script, space: opened.space, plain: Board::fresh(config).expect("a sound set-up") }
+    }
+
+    /// Runs the call of the record at the script's end, which appends this tuple.
+    fn append(&mut self, script: &[u8], tuple: &Tuple) {
+        let (policy, at) = (self.plain.config.policy, self.script.len());
+        let (call, taken) = read_record(&script[at..]).expect("a record");
+        assert_eq!((call.process.into(), call.code), writer(policy, tuple), "{call:?}");
+        assert!(policy != LIST || taken <= 27, "{call:?}");
+        let answer = self.plain.call(&call);
+        assert!([Ok(Answer::DONE), Ok(Answer::INSERTED)].contains(&answer), "{answer:?} to {call:?}");
+
         let read = sys::read(script, at);
-        assert_eq!(read.refusal, 0, "{script:02X?} at {at}");
-        let applied = sys::apply(space, read.call);
+        assert_eq!((read.refusal, read.next), (0, at + taken), "{script:02X?} at {at}");
+        let applied = sys::apply(self.space, read.call);
         // Done or inserted.
         assert!([0, 3].contains(&applied.reply.outcome), "{:?} to {:?}", applied.reply, read.call);
-        (space, at) = (applied.space, read.next);
+        self.space = applied.space;
+        self.script.extend(&script[at..read.next]);
     }
-    assert!(space.bytes() == flat::space(board).bytes(), "{script:02X?} ends in {space:?}, not in {board:?}");
+}
 
-    let mut plain = Board::fresh(board.config).expect("a sound set-up");
-    let mut reader = Reader::new(&script[numbers.len()..]);
-    for tuple in board.held() {
-        let start = reader.taken();
-        let call = reader.record().expect("a record");
-        assert_eq!((call.process.into(), call.code), writer(policy, tuple), "{call:?}");
-        assert!(policy != LIST || reader.taken() - start <= 27, "{call:?}");
-        let answer = plain.call(&call);
-        assert!([Ok(Answer::DONE), Ok(Answer::INSERTED)].contains(&answer), "{answer:?} to {call:?}");
+/// Runs a script by both, call by call and as a whole: each call appends a tuple, and the last one leaves this board. Where it begins with
+/// the last one that was run, it goes on from there.
+fn ends_in(script: &[u8], board: &Board, last: Option<Ran>) -> Ran {
+    let Config { n, t, policy, k } = board.config;
+    let numbers = if policy == STRONG { vec![n, t, policy, k] } else { vec![n, t, policy] };
+    let begun = last.filter(|last| script.starts_with(&last.script));
+    let mut ran = begun.unwrap_or_else(|| Ran::fresh(board.config, &numbers));
+    for tuple in &board.held()[ran.plain.count..] {
+        ran.append(script, tuple);
     }
-    assert!(reader.at_end() && plain == *board, "{script:02X?} ends in {plain:?}, not in {board:?}");
+    assert_eq!(ran.script, script, "{board:?}");
+    assert!(ran.plain == *board, "{script:02X?} ends in {:?}, not in {board:?}", ran.plain);
+    assert!(ran.space.bytes() == flat::space(board).bytes(), "{script:02X?} ends in {:?}", ran.space);
 
     let text = text_of(board, &numbers);
     let mut buffer = vec![0; text.len() + 1];
@@ -161,6 +198,7 @@ fn ends_in(script: &[u8], board: &Board) {
     assert_eq!(length, Ok(text.len()), "{script:02X?}");
     assert_eq!(String::from_utf8_lossy(&buffer[..text.len()]), text, "{script:02X?}");
     assert_eq!(run(script), text, "{script:02X?}");
+    ran
 }
 
 /// By whom, and by which call, this tuple is written.

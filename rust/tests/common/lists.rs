@@ -6,6 +6,7 @@ use std::collections::{BTreeMap, BTreeSet};
 
 use reference::board::MOST_TUPLES;
 use reference::config::LIST;
+use reference::fields::MOST_SEATS;
 use reference::list::LAST_POSITION;
 use reference::{Answer, AnswerKind, Board, Call, Config, Field, Kind, Offset, Refusal, Tuple};
 
@@ -338,9 +339,9 @@ impl Race {
         Race { n: config.n, racers, read: BTreeMap::new(), read_again: 0 }
     }
 
-    /// How many calls a run has: a few, or enough to fill the list.
-    pub fn calls(&self, dice: &mut Dice) -> u64 {
-        ((self.n + 2) * dice.pick(&[3, 12, 40, 170])).min(2_400)
+    /// How many calls a run has, so many at most: a few, or enough to fill the list.
+    pub fn calls(&self, dice: &mut Dice, most: u64) -> u64 {
+        ((self.n + 2) * dice.pick(&[3, 12, 40, 170])).min(most)
     }
 
     /// The next call: a racer's own, or a stray's on this board.
@@ -430,7 +431,7 @@ fn near_entry(dice: &mut Dice, board: &Board, process: u32) -> Tuple {
         0 => position = dice.pick(&[0, 0, 1, 111, 112, 113, 114, 255, Kind::Count.last()]),
         1 => position += 1 + dice.below(2),
         2 if dice.one_in(4) => seat = dice.pick(&SEATS).into(),
-        2 => seat = dice.below(board.config.n.min(16) + 2),
+        2 => seat = dice.below(board.config.n.min(MOST_SEATS + 1) + 2),
         3 => shift = Offset::MARK,
         4 | 5 if !own.is_empty() => (position, seat, serial, shift) = dice.pick(&own),
         6 if !own.is_empty() => (position, seat, serial, _) = dice.pick(&own),
@@ -495,13 +496,14 @@ fn some_template(dice: &mut Dice, board: &Board) -> Tuple {
 
 /// The tuple at this place, from 0, of a list: as a run makes it, and each part of it once in so many times as no run does.
 pub fn odd_listed(dice: &mut Dice, config: &Config, place: u64, often: u64) -> Tuple {
-    let n = config.n.clamp(1, 15);
+    let n = config.n.clamp(1, MOST_SEATS);
     let position = match dice.below(3 * often) {
         0 => dice.pick(&[0, 1, place, place + 2, place + 3, 111, 112, 113, Kind::Count.last()]),
         1 => 1 + dice.below(place + 1),
         _ => place + 1,
     };
-    let seat = if dice.one_in(2 * often) { dice.pick(&[0, n + 1, 15, 16]) } else { 1 + dice.below(n) };
+    let strange = [0, n + 1, MOST_SEATS, MOST_SEATS + 1];
+    let seat = if dice.one_in(2 * often) { dice.pick(&strange) } else { 1 + dice.below(n) };
     let serial = dice.below(often * often / 4);
     let shift = if dice.one_in(2 * often) { Offset::MARK } else { any_shift(dice) };
     let mut tuple = Tuple::listed(position, seat, serial, shift);
@@ -523,8 +525,8 @@ pub fn odd_listed(dice: &mut Dice, config: &Config, place: u64, often: u64) -> T
 pub fn odd_list(dice: &mut Dice, config: &Config) -> Vec<Tuple> {
     let often = dice.pick(&[2, 8, 40, 400]);
     let held = match dice.below(6) {
-        0 => 108 + dice.below(21),
-        1 => dice.below(129),
+        0 => LAST_POSITION - 4 + dice.below(21),
+        1 => dice.below(MOST_TUPLES as u64 + 1),
         _ => dice.below(12),
     };
     let mut tuples: Vec<Tuple> = (0..held).map(|place| odd_listed(dice, config, place, often)).collect();

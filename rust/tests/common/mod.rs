@@ -8,6 +8,7 @@ pub mod denials;
 pub mod dumps;
 pub mod lists;
 pub mod reached;
+pub mod wide;
 
 use std::cell::RefCell;
 use std::fmt::Debug;
@@ -62,7 +63,7 @@ impl Dice {
 }
 
 /// Values at the bounds of 01 and 02, and around them.
-pub const VALUES: [u64; 33] = [
+pub const VALUES: [u64; 34] = [
     0,
     1,
     2,
@@ -81,11 +82,12 @@ pub const VALUES: [u64; 33] = [
     LAST_POSITION + 1,
     127,
     128,
-    129,
-    255,
-    256,
+    Kind::Word.last(),
+    Kind::Word.last() + 1,
     16_383,
     16_384,
+    (1 << 28) - 1,
+    1 << 28,
     Kind::Seats.last(),
     Kind::Seats.last() + 1,
     199_999,
@@ -103,7 +105,10 @@ pub const KINDS: [u32; 8] = [0, 1, 2, 3, 4, 5, 65_538, u32::MAX];
 pub const STATES: [u32; 6] = [0, 1, 2, 3, 65_536, u32::MAX];
 pub const COUNTS: [usize; 9] = [0, 1, 2, 3, 4, 5, 6, 7, usize::MAX];
 pub const CODES: [u32; 8] = [0, 1, 2, 3, 4, 5, 65_540, u32::MAX];
-pub const SEATS: [u32; 9] = [0, 1, 2, 4, 5, MOST_SEATS as u32, MOST_SEATS as u32 + 1, 127, u32::MAX];
+pub const SEATS: [u32; 10] = {
+    let most = MOST_SEATS as u32;
+    [0, 1, 2, 4, 5, most / 2 + 1, most, most + 1, 127, u32::MAX]
+};
 
 /// Every policy, and numbers that are none's.
 pub const POLICIES: [u64; 8] = [0, 1, 2, 3, 4, 5, 6, u64::MAX];
@@ -111,10 +116,10 @@ pub const POLICIES: [u64; 8] = [0, 1, 2, 3, 4, 5, 6, u64::MAX];
 /// How many choices: all of policy 3, and beyond its bounds.
 pub const CHOICES: [u64; 12] = [0, 1, 2, 3, 4, 5, 6, 7, 8, 9, 4_294_967_295, u64::MAX];
 
-/// How many may stray: few, and so many that 3t, 4t or 9t just fits in 64 bits, or wraps.
-pub const STRAYS: [u64; 13] = {
-    let parts = [u64::MAX / 3, u64::MAX / 4, u64::MAX / 9];
-    [0, 1, 2, 3, 4, 5, parts[0], parts[0] + 1, parts[1], parts[1] + 1, parts[2], parts[2] + 1, u64::MAX]
+/// How many may stray: all that any set-up has and one more, and so many that 3t, 4t or 9t just fits in 64 bits, or wraps.
+pub const STRAYS: [u64; 19] = {
+    let [x, y, z] = [u64::MAX / 3, u64::MAX / 4, u64::MAX / 9];
+    [0, 1, 2, 3, 4, 5, 6, 7, 8, 9, 10, 11, x, x + 1, y, y + 1, z, z + 1, u64::MAX]
 };
 
 /// A sound set-up of so many seats under a policy; mostly few choices, so that some may stray.
@@ -126,7 +131,7 @@ pub fn config_of(dice: &mut Dice, n: u64, policy: u64) -> Config {
 
 /// A set-up at or beyond its bounds.
 pub fn odd_config(dice: &mut Dice) -> Config {
-    let n = dice.pick(&[0, 1, 3, 4, 5, 6, 7, 9, 10, MOST_SEATS, MOST_SEATS + 1, u64::MAX]);
+    let n = dice.pick(&[0, 1, 3, 4, 5, 6, 7, 9, 10, 16, 30, MOST_SEATS, MOST_SEATS + 1, u64::MAX]);
     let policy = dice.pick(&[0, 1, 2, 3, 3, 4, 5, 6, u64::MAX]);
     let k = if policy == STRONG || dice.one_in(3) { dice.pick(&CHOICES) } else { 0 };
     Config { n, t: dice.pick(&STRAYS), policy, k }

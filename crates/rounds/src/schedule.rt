@@ -10,7 +10,7 @@ use space::PROCESSES;
 use space::Space;
 use tuple::Call;
 
-// As many passes as a round takes in which all have proposed before any reads: an out, a reading of each process, and a cas.
+// The most passes that a round takes in which all have proposed before any reads: an out, a reading of each process, and a cas.
 pub(crate) const PASSES: u32 = PROCESSES as u32 + 2;
 
 // The space, and what each process's state last gave: the call that it makes next, its decision, or a refusal.

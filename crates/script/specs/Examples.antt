@@ -126,7 +126,7 @@ rows =
     ∷ ("04 01 00" prints "board 4 1 0" ∷ "01 02 00" prints "1 refused 5" ∷ "" prints "tuples 0" ∷ [])
     ∷ ("04 01 00" prints "board 4 1 0" ∷ "01 02 07 05 05 05 05 05 05 05" prints "1 refused 5" ∷ "" prints "tuples 0" ∷ [])
     ∷ ("04 01 00" prints "board 4 1 0" ∷ "01 01 01 05" prints "1 refused 5" ∷ "" prints "tuples 0" ∷ [])
-    -- offsets 100,001 and -100,001, and a process set of 2,147,483,648; one of 32,768 is held, and the records behind it are made
+    -- offsets 100,001 and -100,001, and a process set of 2,147,483,648; one of 32,768 is read, and the record behind it too
     ∷ ("04 01 00" prints "board 4 1 0" ∷ "01 01 01 0C C3 9A 0C" prints "1 refused 3" ∷ "" prints "tuples 0" ∷ [])
     ∷ ("04 01 00" prints "board 4 1 0" ∷ "01 01 01 0C C2 9A 0C" prints "1 refused 3" ∷ "" prints "tuples 0" ∷ [])
     ∷ ("04 01 00" prints "board 4 1 0" ∷ "01 01 01 10 80 80 80 80 08" prints "1 refused 3" ∷ "" prints "tuples 0" ∷ [])

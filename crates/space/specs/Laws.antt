@@ -39,7 +39,7 @@ pub record Sound (config : Config) : Type 0 where
 abbrev pub SoundRule : Type 0
 SoundRule = (config : Config) → (sound config ≡ true) ↔ Sound config
 
--- so at most 10 processes may be faulty, and of 31 as many may be, under policy 3 with two choices
+-- so at most 10 processes may be faulty; of 31 as many may be, under policy 2, and under policy 3 with two choices
 pub record MostFaulty : Type 0 where
   pub most : (config : Config) → sound config ≡ true → config .t ≤ 10
   pub default : sound (record { n = 31; t = 10; policy = 2; k = 0 }) ≡ true

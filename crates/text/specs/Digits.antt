@@ -7,7 +7,7 @@ use lib.Dec.{ltb}
 abbrev pub digit : ℕ → ℕ
 digit d = 48 + d
 
--- the digits of a number before whose last one at most `more` stand, and none if it is small: those of its tenth, unless it is below 10, and then its last
+-- the digits of a number before whose last one at most `more` stand, and none if it is small, which is below 10: those of its tenth, and then its last
 unfoldable pub decimalFrom : ℕ → Bool → ℕ → List ℕ
 decimalFrom zero small n = digit (n % 10) ∷ []
 decimalFrom (suc more) true n = digit (n % 10) ∷ []

@@ -1,5 +1,4 @@
-//! The board: well-formedness, the four calls (01, "Calls"; 02, 2.8, for how
-//! much it holds).
+//! The board: well-formedness, the four calls (01, "Calls", and 02, 2.8).
 
 use crate::config::Config;
 use crate::fields::Tuple;

@@ -1,6 +1,5 @@
-//! Set-ups (01, "What is returned, and for what"; 02, 2.1, 2.6 and 2.7, for those
-//! of policies 3 to 5, and 2.8, for how many seats there may be), and what may be
-//! proposed and decided under them.
+//! Set-ups (01, "What is returned, and for what"; 02, 2.1 and 2.6 to 2.8), and what
+//! may be proposed and decided under them.
 
 use std::ops::RangeInclusive;
 

@@ -1,5 +1,4 @@
-//! Fields, tuples and matching (01, "Fields and tuples"; 02, 2.8, for how far a
-//! set of seats goes).
+//! Fields, tuples and matching (01, "Fields and tuples", and 02, 2.8).
 //!
 //! `Field` and `Tuple` are plain values that can hold anything; `check` tells
 //! whether they hold something that 01 allows, and if not, which fault is the

@@ -390,7 +390,7 @@ fn boards_that_no_run_makes() {
     wide.assert_boards(&[BARE], [100, 0, 20]);
     wide.assert_boards(&[WEAK, DEFAULT, STRONG, LIST], [100, 100, 20]);
     wide.assert_boards(&[WAIT_FREE], [100, 100, 5]);
-    wide.assert_sets(50);
+    wide.assert_sets(&[DEFAULT, STRONG], 50);
     wide.assert_set_ups(10);
     denials.announced.assert_each(&lists::Cause::UNDER_5, 25);
     assert!(outcomes[12] > 200 && outcomes[13] > 200, "{outcomes:?}");
@@ -529,7 +529,7 @@ fn denials_and_their_causes() {
     denials.assert_each(STRONG, &Cause::STRONG_ONLY, 25);
     wide.print();
     wide.assert_boards(&[DEFAULT, STRONG], [25, 100, 10]);
-    wide.assert_sets(100);
+    wide.assert_sets(&[DEFAULT, STRONG], 100);
 }
 
 /// How many tuples the boards hold that are then made dirty: few or none, and half of what they may or more.
@@ -683,6 +683,7 @@ fn boards_that_no_run_makes_written_back() {
     let dumps = written_back("boards that no run makes written back", 4_000, || odd_board(&mut dice));
     for policy in [BARE, WEAK, DEFAULT, STRONG, LIST, WAIT_FREE] {
         dumps.assert_came(policy, 1);
+        dumps.assert_wide(policy, if policy == BARE { [25, 0] } else { [0, 25] });
     }
     let dumps = written_back("boards of a round written back", 3_000, || {
         let round = dice.pick(&[0, 1, 6, 7, 8]);

@@ -9,6 +9,7 @@ use common::denials::Denials;
 use common::dumps::{board_with, near_miss, Dumps};
 use common::lists::{near_call, odd_list, Cause};
 use common::reached::Flaw;
+use common::wide::Wide;
 use common::*;
 use reference::board::MOST_TUPLES;
 use reference::config::{LIST, WAIT_FREE};
@@ -37,10 +38,10 @@ fn calls_handed_in(
     board: fn(&mut Dice) -> Board,
     near_call: fn(&mut Dice, &Board, u32) -> Call,
     name: &str,
-) -> Denials {
+) -> (Denials, Wide) {
     let mut dice = Dice::new(seed);
     let (mut inputs, mut outcomes) = (0, [0usize; ANSWERS]);
-    let mut denials = Denials::default();
+    let (mut denials, mut wide) = (Denials::default(), Wide::default());
     for _ in 0..boards {
         let before = board(&mut dice);
         for _ in 0..5 {
@@ -49,13 +50,15 @@ fn calls_handed_in(
             let call = near_call(&mut dice, &before, process);
             let answer = compare_call(&mut before.clone(), &call);
             denials.note(&before, &call, &answer);
+            wide.note(&before, &call, &answer);
             outcomes[refusal_of(&answer)] += 1;
             inputs += 1;
         }
     }
     println!("compared {inputs:>7} calls on {name} handed in: answered, refused 1 to 13: {outcomes:?}");
     denials.print();
-    denials
+    wide.print();
+    (denials, wide)
 }
 
 /// Boards handed in, and boards beside them, written back.
@@ -74,7 +77,8 @@ fn dumps_handed_in(seed: u64, boards: usize, board: fn(&mut Dice) -> Board, name
 /// Calls on lists handed in: with gaps, positions twice, marks, seats above n and other tuples, and on full boards.
 #[test]
 fn lists_handed_in() {
-    let lists = calls_handed_in(17, 5_000, board_of_a_list, near_call, "lists").lists;
+    let (Denials { lists, .. }, wide) = calls_handed_in(17, 5_000, board_of_a_list, near_call, "lists");
+    wide.assert_boards(&[LIST], [100, 100, 100]);
     lists.assert_each(&Cause::UNDER_4, 50);
     let came = [lists.inserted, lists.held, lists.found, lists.none, lists.full];
     assert!(came.iter().all(|often| *often > 200), "{came:?}");
@@ -139,14 +143,16 @@ fn lists_of_112_positions() {
 fn lists_handed_in_written_back() {
     let dumps = dumps_handed_in(19, 4_000, board_of_a_list, "lists");
     dumps.assert_came(LIST, 50);
+    dumps.assert_wide(LIST, [0, 100]);
     dumps.assert_each(LIST, &Flaw::UNDER_4, 25);
 }
 
 /// Calls on announcements handed in: two of one seat, with the mark, of seats above n, of what is listed, with its shift or another.
 #[test]
 fn announcements_handed_in() {
-    let lists =
-        calls_handed_in(24, 14_000, board_of_announcements, announced::near_call, "announcements").announced;
+    let (Denials { announced: lists, .. }, wide) =
+        calls_handed_in(24, 14_000, board_of_announcements, announced::near_call, "announcements");
+    wide.assert_boards(&[WAIT_FREE], [100, 100, 100]);
     lists.assert_each(&Cause::UNDER_4, 50);
     lists.assert_each(&Cause::UNDER_5, 50);
     let came = [lists.inserted, lists.held, lists.found, lists.none, lists.full, lists.done];
@@ -316,4 +322,5 @@ fn lists_of_112_announcements() {
 fn announcements_handed_in_written_back() {
     let dumps = dumps_handed_in(25, 3_000, board_of_announcements, "boards of announcements");
     dumps.assert_came(WAIT_FREE, 50);
+    dumps.assert_wide(WAIT_FREE, [0, 100]);
 }

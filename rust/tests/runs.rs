@@ -11,7 +11,7 @@ use std::collections::HashMap;
 use common::announced::{Came, Helping};
 use common::denials::Denials;
 use common::lists::{Cause, Race};
-use common::{config_of, offsets_of, Dice};
+use common::{config_of, offsets_of, some_seats, Dice};
 use reference::config::{DEFAULT, LIST, STRONG, WAIT_FREE};
 use reference::fields::MOST_SEATS;
 use reference::list::LAST_POSITION;
@@ -107,7 +107,7 @@ impl Record {
 
 /// A sound set-up under policy 2 or 3, and what its following seats propose.
 fn set_up(dice: &mut Dice, policy: u64) -> (Config, Vec<u64>) {
-    let n = 1 + dice.below(MOST_SEATS);
+    let n = if dice.one_in(10) { MOST_SEATS } else { some_seats(dice) };
     let k = if policy == STRONG { dice.pick(&[2, 2, 3, 3, 4, 5, 6, 7, 8]) } else { 0 };
     let t = dice.below((n - 1) / if policy == STRONG { k + 1 } else { 3 } + 1);
     let config = Config { n, t, policy, k };
@@ -219,7 +219,7 @@ fn runs_with_strays() {
 /// Makes one run under policy 4; gives how many positions it filled, and how
 /// many sums were held against another's.
 fn run_of_a_list(dice: &mut Dice, denials: &mut Denials) -> [usize; 2] {
-    let n = 1 + dice.below(MOST_SEATS);
+    let n = some_seats(dice);
     let mut board = Board::fresh(config_of(dice, n, LIST)).unwrap();
     let mut race = Race::new(dice, &board.config);
     for _ in 0..race.calls(dice, 6_000) {
@@ -252,7 +252,7 @@ fn runs_of_a_list() {
 
 /// Makes one run under policy 5; gives what came of it.
 fn run_of_announcements(dice: &mut Dice, denials: &mut Denials) -> Came {
-    let n = 1 + dice.below(MOST_SEATS);
+    let n = some_seats(dice);
     let mut board = Board::fresh(config_of(dice, n, WAIT_FREE)).unwrap();
     let mut helping = Helping::new(dice, &board.config);
     for _ in 0..helping.calls(dice, 6_000) {

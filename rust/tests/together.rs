@@ -72,6 +72,14 @@ impl Counts {
         assert!(came.written >= written, "{came:?}");
         self.misses.assert_came(policy, beside);
     }
+
+    /// Under policies 2 and 3: calls on boards that hold more than half of what they may, such boards written back, and those beside them.
+    fn assert_wide(&self, policy: u64) {
+        self.wide.assert_boards(&[policy], [1_000, 100, 0]);
+        self.wide.assert_sets(&[policy], 100);
+        self.dumps.assert_wide(policy, [100, 0]);
+        self.misses.assert_wide(policy, [5, 5]);
+    }
 }
 
 struct Run {
@@ -185,7 +193,7 @@ impl Run {
         let length = compare_script(&self.script, &buffer).unwrap();
         for room in [length, length - 1, dice.below(length as u64) as usize, length + 9] {
             buffer.resize(room, 0x5A);
-            _ = compare_script(&self.script, &buffer);
+            _ = compare_lent(&self.script, &buffer);
         }
         // Damaged: cut anywhere, or a byte changed.
         for _ in 0..6 {
@@ -196,7 +204,11 @@ impl Run {
                 1 => damaged[place] = dice.next() as u8,
                 _ => damaged[place] = dice.pick(&[0, 1, 4, 5, 7, 12, 0x80]),
             }
-            _ = compare_script(&damaged, &vec![0xA5; 16 * damaged.len() + 64]);
+            if dice.one_in(2) {
+                compare_text(&damaged);
+            } else {
+                _ = compare_lent(&damaged, &vec![0xA5; 16 * damaged.len() + 64]);
+            }
         }
         counts.scripts += 11;
     }
@@ -365,7 +377,7 @@ fn run_of_seats(dice: &mut Dice, config: Config, turns: u64, counts: &mut Counts
 /// Policies 0 and 1: calls that meet each other, on few values. Some runs under policy 0 are longer and fill the board, and then take off
 /// and append in turn.
 fn run_of_others(dice: &mut Dice, counts: &mut Counts) {
-    let (n, policy) = (1 + dice.below(MOST_SEATS), dice.below(2));
+    let (n, policy) = (some_seats(dice), dice.below(2));
     let mut run = Run::new(config_of(dice, n, policy));
     let fills = policy == BARE && dice.one_in(4);
     let field = |dice: &mut Dice, entry: bool| {
@@ -412,7 +424,7 @@ fn run_of_others(dice: &mut Dice, counts: &mut Counts) {
 /// Policy 4: seats that race for the positions of the list, among strays. Gives how many positions are filled, how many readings met
 /// another and how many sums were held against another's.
 fn run_of_a_list(dice: &mut Dice, counts: &mut Counts) -> [usize; 3] {
-    let n = 1 + dice.below(MOST_SEATS);
+    let n = some_seats(dice);
     let mut run = Run::new(config_of(dice, n, LIST));
     let mut race = Race::new(dice, &run.config);
     for _ in 0..race.calls(dice, 2_400) {
@@ -429,7 +441,7 @@ fn run_of_a_list(dice: &mut Dice, counts: &mut Counts) -> [usize; 3] {
 
 /// Policy 5: seats that announce their shifts and list each other's, among strays.
 fn run_of_announcements(dice: &mut Dice, counts: &mut Counts) -> Came {
-    let n = 1 + dice.below(MOST_SEATS);
+    let n = some_seats(dice);
     let mut run = Run::new(config_of(dice, n, WAIT_FREE));
     let mut helping = Helping::new(dice, &run.config);
     for _ in 0..helping.calls(dice, 2_400) {
@@ -452,7 +464,7 @@ fn runs_under(policy: u64, seed: u64, runs: usize, most: &[Config]) -> Counts {
     let mut dice = Dice::new(seed);
     let mut counts = Counts::default();
     for _ in 0..runs {
-        let n = 1 + dice.below(MOST_SEATS);
+        let n = some_seats(&mut dice);
         let config = config_of(&mut dice, n, policy);
         run_of_seats(&mut dice, config, 70, &mut counts);
     }
@@ -490,8 +502,9 @@ const IN_RUNS: [Cause; 10] = [
 
 #[test]
 fn runs_under_policy_2() {
-    let counts = runs_under(DEFAULT, 11, 70, &[Config { n: MOST_SEATS, t: 10, policy: DEFAULT, k: 0 }; 4]);
+    let counts = runs_under(DEFAULT, 11, 80, &[Config { n: MOST_SEATS, t: 10, policy: DEFAULT, k: 0 }; 4]);
     counts.assert_dumps(DEFAULT, 300, 5);
+    counts.assert_wide(DEFAULT);
     let Counts { decided, marks, raced, denials, .. } = counts;
     assert!(decided > 300 && marks > 30, "{decided} {marks}");
     assert!(raced.iter().all(|often| *often > 20), "{raced:?}");
@@ -503,8 +516,9 @@ fn runs_under_policy_2() {
 #[test]
 fn runs_under_policy_3() {
     let most = [(2, 10), (3, 7), (8, 3)].map(|(k, t)| Config { n: MOST_SEATS, t, policy: STRONG, k });
-    let counts = runs_under(STRONG, 13, 40, &most);
+    let counts = runs_under(STRONG, 13, 50, &most);
     counts.assert_dumps(STRONG, 150, 5);
+    counts.assert_wide(STRONG);
     let Counts { decided, marks, raced, denials, .. } = counts;
     assert!(decided > 150 && marks == 0 && raced[0] > 15 && raced[1] == 0, "{decided} {marks} {raced:?}");
     denials.assert_each(STRONG, &IN_RUNS, 3);
@@ -536,11 +550,11 @@ fn runs_under_policy_4() {
 fn runs_under_policy_5() {
     let mut dice = Dice::new(26);
     let (mut counts, mut came) = (Counts::default(), Came::default());
-    for _ in 0..100 {
+    for _ in 0..120 {
         came.add(&run_of_announcements(&mut dice, &mut counts));
     }
     let Counts { calls, scripts, refused, .. } = counts;
-    println!("compared {calls:>7} calls of 100 runs under policy 5: {refused} refused");
+    println!("compared {calls:>7} calls of 120 runs under policy 5: {refused} refused");
     counts.denials.print();
     came.print();
     println!("compared {scripts:>7} scripts of these runs, whole, damaged, into short buffers");
@@ -557,16 +571,19 @@ fn runs_under_policy_5() {
 fn runs_under_policies_0_and_1() {
     let mut dice = Dice::new(12);
     let mut counts = Counts::default();
-    for _ in 0..150 {
+    for _ in 0..100 {
         run_of_others(&mut dice, &mut counts);
     }
     let Counts { calls, scripts, refused, full, .. } = counts;
     println!(
-        "compared {calls:>7} calls of 150 runs under policies 0 and 1: {refused} refused, {full} of them 8"
+        "compared {calls:>7} calls of 100 runs under policies 0 and 1: {refused} refused, {full} of them 8"
     );
     println!("compared {scripts:>7} scripts of these runs");
-    assert!(full > 30, "{full}");
+    counts.wide.print();
+    assert!(full > 100, "{full}");
+    counts.wide.assert_boards(&[BARE], [1_000, 0, 100]);
     counts.print_dumps();
+    counts.dumps.assert_wide(BARE, [500, 0]);
     counts.assert_dumps(BARE, 100, 5);
     counts.assert_dumps(WEAK, 100, 5);
 }

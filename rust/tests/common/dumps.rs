@@ -48,11 +48,14 @@ impl Dumps {
         assert_eq!(answer.as_ref().err(), expected.as_ref(), "{flaw:?} in {board:?}");
         match &answer {
             Ok(script) => {
-                for room in [script.len() - 1, 0] {
-                    assert_eq!(compare_dump(board, &vec![0x5A; room]), Err(Refusal::Buffer));
-                    came.short += 1;
+                // The other lengths for every small board, and for every eighth of the larger ones.
+                if board.count <= 32 || board.count % 8 == 0 {
+                    for room in [script.len() - 1, 0] {
+                        assert_eq!(compare_dump(board, &vec![0x5A; room]), Err(Refusal::Buffer));
+                        came.short += 1;
+                    }
+                    assert_eq!(compare_dump(board, &vec![0x5A; script.len()]).as_ref(), Ok(script));
                 }
-                assert_eq!(compare_dump(board, &vec![0x5A; script.len()]).as_ref(), Ok(script));
                 self.last = Some(ends_in(script, board, self.last.take()));
                 came.written += 1;
             }

@@ -122,6 +122,12 @@ pub const STRAYS: [u64; 19] = {
     [0, 1, 2, 3, 4, 5, 6, 7, 8, 9, 10, 11, x, x + 1, y, y + 1, z, z + 1, u64::MAX]
 };
 
+/// How many seats take part in a run: few, which take many rounds, or any number.
+pub fn some_seats(dice: &mut Dice) -> u64 {
+    let most = dice.pick(&[8, MOST_SEATS]);
+    1 + dice.below(most)
+}
+
 /// A sound set-up of so many seats under a policy; mostly few choices, so that some may stray.
 pub fn config_of(dice: &mut Dice, n: u64, policy: u64) -> Config {
     let k = if policy == STRONG { dice.pick(&[2, 2, 2, 2, 3, 3, 3, 4, 4, 5, 6, 7, 8]) } else { 0 };
@@ -349,11 +355,16 @@ pub fn compare_read(bytes: &[u8], at: usize) -> bool {
 
 /// A script's text into a buffer, by both, and into one that has room for every text.
 pub fn compare_script(script: &[u8], buffer: &[u8]) -> Result<usize, Refusal> {
+    compare_text(script);
+    compare_lent(script, buffer)
+}
+
+/// A script's text into a buffer, by both.
+pub fn compare_lent(script: &[u8], buffer: &[u8]) -> Result<usize, Refusal> {
     let proved = lend(buffer, |lent| sys::script(script, lent));
     let (answer, left, guards) = lend(buffer, |lent| run_into(script, lent));
     let plain = (answer.map_err(Refusal::number), left, guards);
     same(proved, plain, || format!("{script:02X?} into {} bytes", buffer.len()));
-    compare_text(script);
     answer
 }
 
@@ -366,7 +377,7 @@ thread_local! {
 }
 
 /// A script's text by the path that the program takes, and nothing around it.
-fn compare_text(script: &[u8]) {
+pub fn compare_text(script: &[u8]) {
     let text = run(script);
     WIDE.with_borrow_mut(|(wide, lent)| {
         let answer = sys::script(script, &mut wide[GUARD..GUARD + EVERY_TEXT]);

@@ -91,10 +91,12 @@ impl Wide {
         for (policy, came) in &self.given {
             println!("         under policy {policy} {came} cas of a seat with such a set");
         }
-        let choices: Vec<String> = choices()
-            .map(|k| format!("{k} {:?}", strays(k).map(|t| self.often(k, t)).collect::<Vec<_>>()))
-            .collect();
-        println!("         n from {UPPER_SEAT} on, by k and t: {}", choices.join(", "));
+        for k in choices() {
+            let came: Vec<usize> = strays(k).map(|t| self.often(k, t)).collect();
+            if came.iter().any(|often| *often > 0) {
+                println!("         with n from {UPPER_SEAT} on and k = {k} {came:?}: by t");
+            }
+        }
     }
 
     fn often(&self, k: u64, t: u64) -> usize {
@@ -112,10 +114,10 @@ impl Wide {
         }
     }
 
-    /// Wide sets were borne, refused 13 and refused 7 so often at least, under policy 2 and under policy 3.
-    pub fn assert_sets(&self, least: usize) {
-        for policy in [DEFAULT, STRONG] {
-            let came = self.sets.get(&policy).copied().unwrap_or_default();
+    /// Under these policies wide sets were borne, refused 13 and refused 7 so often at least.
+    pub fn assert_sets(&self, policies: &[u64], least: usize) {
+        for policy in policies {
+            let came = self.sets.get(policy).copied().unwrap_or_default();
             assert!(came.iter().all(|often| *often >= least), "{came:?} under policy {policy}");
         }
     }

@@ -1,5 +1,5 @@
 //! The proved library and the plain Rust version side by side: same inputs, interleaved, medians of many rounds. Where a board is handed in
-//! (b, d and f) both sides test that it is well formed, at every call; in scripts (c and e), whose board nobody else writes, neither does.
+//! (b, d, f and g) both sides test that it is well formed, at every call; in scripts (c and e), whose board nobody else writes, neither does.
 //!
 //!     bench [the proved program board] [the Rust program board]
 //!
@@ -17,7 +17,7 @@ use reference::fields::MOST_SEATS;
 use reference::policy::LAST_ROUND;
 use reference::records::{read_record, record_of};
 use reference::{flat, script, sys};
-use reference::{Answer, Board, Call, Config, Field, Kind, Offset, Seat, Step, Tuple};
+use reference::{Answer, Board, Call, Config, Field, Kind, Offset, Phase, Seat, Step, Tuple};
 
 const FULL: Config = Config { n: MOST_SEATS, t: (MOST_SEATS - 1) / 3, policy: 2, k: 0 };
 
@@ -96,6 +96,11 @@ fn choice(round: u64, k: u32) -> i32 {
     (k as i32 + round as i32) % (round as i32 + 1) * 50 - 100
 }
 
+/// Its travelling number.
+fn chosen(round: u64, k: u32) -> u64 {
+    Offset::Number(choice(round, k).into()).travelling().expect("in range")
+}
+
 /// All rounds, in which all seats follow; how many calls were made.
 fn rounds_ours() -> usize {
     let config = flat::config(&FULL);
@@ -119,13 +124,13 @@ fn rounds_ours() -> usize {
     calls
 }
 
-fn rounds_plain() -> usize {
+/// The same, and the board in which they end.
+fn rounds_plain() -> (Board, usize) {
     let mut board = Board::fresh(FULL).expect("a sound set-up");
     let mut calls = 0;
     for round in 0..=LAST_ROUND {
         let start = |k| {
-            let offset = Offset::Number(choice(round, k).into()).travelling().expect("in range");
-            let (seat, out) = Seat::start(FULL, k, round, offset).expect("a seat that may start");
+            let (seat, out) = Seat::start(FULL, k, round, chosen(round, k)).expect("a seat that may start");
             (seat, Some(out))
         };
         let mut seats: Vec<(Seat, Option<Call>)> = (1..=MOST_SEATS as u32).map(start).collect();
@@ -144,7 +149,7 @@ fn rounds_plain() -> usize {
         }
     }
     assert_eq!(board.count, MOST_TUPLES);
-    calls
+    (board, calls)
 }
 
 /// A bare board filled with tuples, then rdp and cas in turn up to the longest script.
@@ -168,7 +173,7 @@ fn long_script() -> Vec<u8> {
     bytes
 }
 
-/// A board that eight rounds of fifteen proposals and a decision have filled.
+/// A board that eight rounds of proposals of all seats and a decision have filled.
 fn full_board() -> Board {
     let mut board = Board::fresh(FULL).expect("a sound set-up");
     for round in 0..=LAST_ROUND {
@@ -194,8 +199,45 @@ fn searched(count: usize) -> (Board, Call) {
     (board, Call::rdp(1, template))
 }
 
+/// A decision with the first of all seats, so many.
+fn decision(round: u64, offset: u64, members: u64) -> Call {
+    Call::cas(1, Tuple::decision_template(round), Tuple::decision(round, offset, (1 << members) - 1))
+}
+
+/// A seat that calls cas with the mark in the last round, having found as many as that needs.
+fn deciding() -> Seat {
+    let (mut seat, _) =
+        Seat::start(FULL, 1, LAST_ROUND, chosen(LAST_ROUND, 1)).expect("a seat that may start");
+    let found = |k| Answer::found(Tuple::proposal(LAST_ROUND, k, chosen(LAST_ROUND, k as u32)));
+    for answer in [Answer::DONE].into_iter().chain((1..=FULL.n - FULL.t).map(found)) {
+        (seat, _) = seat.hand(&answer).expect("a fitting answer");
+    }
+    assert_eq!(seat.phase, Phase::Deciding);
+    seat
+}
+
 /// How many calls are timed at once where one is too short.
 const CALLS: usize = 100;
+
+/// The medians of as many calls, which both answer alike and leave the board as it is.
+fn calls_on(mut board: Board, call: Call) -> (Duration, Duration) {
+    let (space, asked) = (flat::space(&board), flat::call(&call));
+    let answer = Answer::from(board.call(&call));
+    assert_eq!(sys::apply(space, asked), sys::Applied { reply: flat::reply(&answer), space });
+    let ours = || (0..CALLS).for_each(|_| _ = black_box(sys::apply(black_box(space), asked)));
+    let plain = || (0..CALLS).for_each(|_| _ = black_box(board.call(black_box(&call))));
+    medians(101, ours, plain)
+}
+
+/// The medians of as many handings of a held mark.
+fn handed_to(seat: Seat) -> (Duration, Duration) {
+    let answer = Answer::held(Tuple::decision(seat.round, Offset::MARK, (1 << FULL.n) - 1));
+    let (process, reply) = (flat::process(&seat), flat::reply(&answer));
+    assert_eq!(sys::resume(process, reply), flat::handed(&process, &seat.hand(&answer)));
+    let ours = || (0..CALLS).for_each(|_| _ = black_box(sys::resume(black_box(process), reply)));
+    let plain = || (0..CALLS).for_each(|_| _ = black_box(black_box(&seat).hand(&answer)));
+    medians(101, ours, plain)
+}
 
 fn run_program(program: &str, input: &str) {
     let input = File::open(input).expect("the script");
@@ -210,7 +252,7 @@ fn main() {
     let bytes = records();
     line("a  reading 1,000 records", medians(301, || read_ours(&bytes), || read_plain(&bytes)));
 
-    let calls = rounds_plain();
+    let (decided, calls) = rounds_plain();
     assert_eq!(rounds_ours(), calls);
     let rounds = medians(41, || _ = black_box(rounds_ours()), || _ = black_box(rounds_plain()));
     line(
@@ -242,17 +284,24 @@ fn main() {
         medians(101, ours, plain),
     );
 
-    for count in [8, 32, MOST_TUPLES] {
-        let (mut board, call) = searched(count);
-        let (space, asked) = (flat::space(&board), flat::call(&call));
-        assert_eq!((sys::apply(space, asked).reply.outcome, board.call(&call)), (1, Ok(Answer::NONE)));
-        let ours = || (0..CALLS).for_each(|_| _ = black_box(sys::apply(black_box(space), asked)));
-        let plain = || (0..CALLS).for_each(|_| _ = black_box(board.call(black_box(&call))));
-        line(
-            &format!("f  {CALLS} rdp that find nothing on {count} tuples, the board tested at each"),
-            medians(101, ours, plain),
-        );
+    for count in [8, 32, 128, MOST_TUPLES] {
+        let (board, call) = searched(count);
+        let name = format!("f  {CALLS} rdp that find nothing on {count} tuples, the board tested at each");
+        line(&name, calls_on(board, call));
     }
+
+    let (few, many) = (FULL.t + 1, FULL.n - FULL.t);
+    let held = [
+        (format!("an offset with {few} seats"), decision(0, chosen(0, 1), few)),
+        (format!("the mark with {many} seats"), decision(LAST_ROUND, Offset::MARK, many)),
+    ];
+    for (what, call) in held {
+        let name = format!("g  {CALLS} cas of {what}, held, on {MOST_TUPLES} tuples, tested at each");
+        line(&name, calls_on(decided.clone(), call));
+    }
+
+    let name = format!("h  {CALLS} answers handed to a seat that decides, {many} of {} found", FULL.n);
+    line(&name, handed_to(deciding()));
 
     if let [ours, plain] = arguments.as_slice() {
         let path = std::env::temp_dir().join(format!("board-bench-{}", std::process::id()));

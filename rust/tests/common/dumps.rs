@@ -33,6 +33,7 @@ pub struct Dumps {
     /// Of boards that hold more than half of what they may: how many were written, and how many refused 14 or 15.
     wide: BTreeMap<u64, [usize; 2]>,
     flaws: BTreeMap<(u64, Flaw), usize>,
+    /// The last script that was run.
     last: Option<Ran>,
 }
 
@@ -111,7 +112,7 @@ impl Dumps {
         }
         if !self.wide.is_empty() {
             println!(
-                "         on more than half of the places, by policy, written and refused 14 or 15: {:?}",
+                "         of more than half of the tuples, written and refused 14 or 15: {:?}",
                 self.wide
             );
         }
@@ -123,7 +124,7 @@ impl Dumps {
         assert!(came[0] >= written && came[1] >= refused, "{came:?} under policy {policy}");
     }
 
-    /// Each answer that can come did so often at least under this policy, but 10, which each written board gives: all but 14 under policy 0,
+    /// Each answer that can come did so often at least under this policy, but 10, which written boards give: all but 14 under policy 0,
     /// and 1 and 15 alone under policy 5.
     pub fn assert_came(&self, policy: u64, least: usize) {
         let came = self.under(policy);

@@ -137,7 +137,8 @@ pub fn config_of(dice: &mut Dice, n: u64, policy: u64) -> Config {
 
 /// A set-up at or beyond its bounds.
 pub fn odd_config(dice: &mut Dice) -> Config {
-    let n = dice.pick(&[0, 1, 3, 4, 5, 6, 7, 9, 10, 16, 30, MOST_SEATS, MOST_SEATS + 1, u64::MAX]);
+    let most = MOST_SEATS;
+    let n = dice.pick(&[0, 1, 3, 4, 5, 6, 7, 9, 10, most / 2 + 1, most - 1, most, most + 1, u64::MAX]);
     let policy = dice.pick(&[0, 1, 2, 3, 3, 4, 5, 6, u64::MAX]);
     let k = if policy == STRONG || dice.one_in(3) { dice.pick(&CHOICES) } else { 0 };
     Config { n, t: dice.pick(&STRAYS), policy, k }

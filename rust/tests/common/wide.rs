@@ -6,7 +6,7 @@ use std::collections::BTreeMap;
 use reference::board::MOST_TUPLES;
 use reference::config::{CHOICES, DEFAULT, STRONG};
 use reference::fields::MOST_SEATS;
-use reference::{Answer, AnswerKind, Board, Call, Config, Refusal, Seat, Step, Tuple};
+use reference::{Answer, AnswerKind, Board, Call, Config, Refusal, Seat, Step};
 
 /// The first seat of the upper half: 16.
 const UPPER_SEAT: u64 = MOST_SEATS / 2 + 1;
@@ -19,10 +19,10 @@ pub fn is_wide(board: &Board) -> bool {
     board.count > HALF
 }
 
-/// The set of a cas that decides, if it has a seat of the upper half.
-fn wide_set(call: &Call) -> Option<u64> {
-    let (_, _, seats) = Some(call.entry).filter(|_| call.code == 4).as_ref().and_then(Tuple::as_decision)?;
-    Some(seats).filter(|seats| seats >> (UPPER_SEAT - 1) != 0)
+/// Whether this is a cas of a decision whose set has a seat of the upper half.
+fn has_wide_set(call: &Call) -> bool {
+    let upper = |(_, _, seats): (u64, u64, u64)| seats >> (UPPER_SEAT - 1) != 0;
+    call.code == 4 && call.entry.as_decision().is_some_and(upper)
 }
 
 #[derive(Default)]
@@ -55,7 +55,7 @@ impl Wide {
             };
             self.boards.entry(policy).or_default()[place] += 1;
         }
-        if wide_set(call).is_some() && [DEFAULT, STRONG].contains(&policy) {
+        if has_wide_set(call) && [DEFAULT, STRONG].contains(&policy) {
             let place = match number {
                 13 => 1,
                 7 => 2,
@@ -71,7 +71,7 @@ impl Wide {
             self.note_set_up(&seat.config);
         }
         if let Ok((_, Step::Call(call))) = result {
-            *self.given.entry(seat.config.policy).or_default() += usize::from(wide_set(call).is_some());
+            *self.given.entry(seat.config.policy).or_default() += usize::from(has_wide_set(call));
         }
     }
 

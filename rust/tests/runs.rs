@@ -13,7 +13,6 @@ use common::denials::Denials;
 use common::lists::{Cause, Race};
 use common::{config_of, offsets_of, some_seats, Dice};
 use reference::config::{DEFAULT, LIST, STRONG, WAIT_FREE};
-use reference::fields::MOST_SEATS;
 use reference::list::LAST_POSITION;
 use reference::policy::LAST_ROUND;
 use reference::records::{read_record, record_of};
@@ -107,7 +106,7 @@ impl Record {
 
 /// A sound set-up under policy 2 or 3, and what its following seats propose.
 fn set_up(dice: &mut Dice, policy: u64) -> (Config, Vec<u64>) {
-    let n = if dice.one_in(10) { MOST_SEATS } else { some_seats(dice) };
+    let n = some_seats(dice);
     let k = if policy == STRONG { dice.pick(&[2, 2, 3, 3, 4, 5, 6, 7, 8]) } else { 0 };
     let t = dice.below((n - 1) / if policy == STRONG { k + 1 } else { 3 } + 1);
     let config = Config { n, t, policy, k };

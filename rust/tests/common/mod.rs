@@ -122,10 +122,13 @@ pub const STRAYS: [u64; 19] = {
     [0, 1, 2, 3, 4, 5, 6, 7, 8, 9, 10, 11, x, x + 1, y, y + 1, z, z + 1, u64::MAX]
 };
 
-/// How many seats take part in a run: few, which take many rounds, or any number.
+/// How many seats a run has: mostly few, so that they get far, else any number or all.
 pub fn some_seats(dice: &mut Dice) -> u64 {
-    let most = dice.pick(&[8, MOST_SEATS]);
-    1 + dice.below(most)
+    match dice.below(8) {
+        0 => MOST_SEATS,
+        1..=3 => 1 + dice.below(MOST_SEATS),
+        _ => 1 + dice.below(8),
+    }
 }
 
 /// A sound set-up of so many seats under a policy; mostly few choices, so that some may stray.

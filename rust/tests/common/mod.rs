@@ -163,15 +163,15 @@ pub fn every_config() -> Vec<Config> {
 /// The offsets that following seats propose and strays race them with: 0, 7, -7, 40, -40, 100,000 and -100,000.
 pub const OFFSETS: [u64; 7] = [1, 15, 14, 81, 80, 200_001, 200_000];
 
-/// Offsets for a run, one or a few, so that they meet: of the choices under policy 3, else of these.
+/// Offsets for a run, one or a few, so that they meet, and more where there are more seats: of the choices under policy 3, else of these.
 pub fn offsets_of(dice: &mut Dice, config: &Config) -> Vec<u64> {
     let all = match config.policy {
         STRONG => (0..config.k).map(|choice| 1 + 2 * choice).collect(),
         _ => OFFSETS.to_vec(),
     };
     // Those from one place on, round the table: the opposites stand side by side.
-    let (first, many) = (dice.below(all.len() as u64) as usize, 1 + dice.below(4) as usize);
-    all.into_iter().cycle().skip(first).take(many).collect()
+    let (first, many) = (dice.below(all.len() as u64), 1 + dice.below(4 + config.n / 8));
+    all.into_iter().cycle().skip(first as usize).take(many as usize).collect()
 }
 
 /// An offset that may be proposed; one of a few, so that they meet.

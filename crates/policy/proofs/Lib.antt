@@ -1,4 +1,5 @@
 pub mod AnnouncingLaws
+pub mod AskedLaws
 pub mod DecisionLaws
 pub mod ListingLaws
 pub mod PolicyLaws

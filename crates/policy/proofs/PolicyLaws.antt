@@ -27,6 +27,7 @@ use Rattle.space.specs.Bounds.{rounds}
 use Rattle.space.specs.Configs.{hasProposals, hasList}
 use Rattle.space.specs.Members.{within}
 use Rattle.space.specs.Proposals.{offered, decidable, proposed, everyProposed, crowded, Placed}
+use Rattle.space.specs.Questions.{bySearch}
 use Rattle.space.specs.Shapes.{isProposal, roundOf, inRounds, processOf, proposedCode}
 use Rattle.space.proofs.CodeLaws.{offered-some}
 use Rattle.space.proofs.ConfigLaws.{proposals-rule, has-list-rule}
@@ -60,7 +61,7 @@ module _ (config : Config) (tuples : List Tuple) (call : Call) where
   unfolding verdictOn
   under-weak one = rw one
 
-  pub under-justified : hasProposals config ≡ true → verdictOn config tuples call ≡ justified config tuples call
+  pub under-justified : hasProposals config ≡ true → verdictOn config tuples call ≡ justified config (bySearch config tuples) call
   unfolding verdictOn hasProposals
   under-justified rests = ⊎-elim (λ (two : config .policy ≡ 2). rw two refl) (λ (three : config .policy ≡ 3). rw three refl) (proposals-rule config .0 rests)
 
@@ -135,13 +136,25 @@ justified-only config tuples call rests h =
     (λ b. cases (eqb (call .code) cas) (λ c. inr (inr (eqb-true _ _ c)))
     (λ c. let refused = rw (a, b, c) at ruled in let z : _≡_ {A = ℕ} 0 1 = cc in absurd (omega arith))))
 
-free-rule : (config : Config) (tuples : List Tuple) (entry : Tuple) → (isFree config tuples entry ≡ true) ↔ (Placed tuples (roundOf entry) (processOf entry) → ⊥)
+free-rule : (config : Config) (tuples : List Tuple) (entry : Tuple) → (isFree (bySearch config tuples) entry ≡ true) ↔ (Placed tuples (roundOf entry) (processOf entry) → ⊥)
 unfolding isFree
 free-rule config tuples entry =
     let taken = proposed-rules config tuples (roundOf entry) (processOf entry) .taken in (
       λ h p. let test : not (proposed config tuples Any (roundOf entry) (processOf entry)) ≡ true = h in false≢true (rw (taken .1 p) at test),
       λ free. cases (proposed config tuples Any (roundOf entry) (processOf entry)) (λ e. absurd (free (taken .0 e))) (λ e. rw e),
     )
+
+-- what an out of a proposal of the caller's own has
+pub own-parts : (config : Config) (call : Call) → isOwnProposal config call ≡ true
+    → (isProposal (call .entry) ≡ true)
+    × (roundOf (call .entry) < rounds)
+    × (processOf (call .entry) ≡ call .process)
+    × (offered config (proposedCode (call .entry)) ≡ true)
+unfolding isOwnProposal
+own-parts config call h =
+    let entry = call .entry in
+    let parts = four (isProposal entry) (inRounds (roundOf entry)) (eqb (processOf entry) (call .process)) (offered config (proposedCode entry)) h in
+    (parts .0, ltb-true _ _ (parts .1), eqb-true _ _ (parts .2), parts .3)
 
 pub out-rule : OutRule
 unfolding justified outVerdict isOwnProposal
@@ -151,52 +164,51 @@ out-rule config tuples call rests e =
     rw (under-justified config tuples call rests, e) (
       λ h.
           let own = demanded (isOwnProposal config call) _ _ h in
-          let free = demanded (isFree config tuples entry) _ Permit (own .1) .0 in
-          let parts = four (isProposal entry) (inRounds (roundOf entry)) (eqb (processOf entry) (call .process)) (offered config (proposedCode entry)) (own .0) in
-          let same : processOf entry ≡ call .process = eqb-true _ _ (parts .2) in
-          record { shape = parts .0; in-rounds = ltb-true _ _ (parts .1); own = same; may = parts .3; free = rw same at (none .0 free) },
+          let free = demanded (isFree (bySearch config tuples) entry) _ Permit (own .1) .0 in
+          let parts = own-parts config call (own .0) in
+          record { shape = parts .0; in-rounds = parts .1; own = parts .2; may = parts .3; free = rw (parts .2) at (none .0 free) },
       λ own. rw (own .shape, lt-ltb _ _ (own .in-rounds), eq-eqb _ _ (own .own), own .may, none .1 (rw (own .own) (own .free))),
     )
 
 -- ---- policies 2 and 3: cas
 
-module _ (config : Config) (tuples : List Tuple) (call : Call) where
-  pub decision-rule : (isDecisionCall config call ≡ true) ↔ DecisionCall config call
-  unfolding isDecisionCall
-  decision-rule =
-      let round = same-round (call .template) (call .entry) in
-      let set = within-rule (config .n) (setOf (call .entry)) in (
-        λ h.
-            let last = and-eq-true-iff (isDecisionTemplate (call .template) && isDecision (call .entry) && sameRound (call .template) (call .entry) && within (config .n) (setOf (call .entry))) _ .0 h in
-            let may : decidable config (decidedCode (call .entry)) ≡ true = last .1 in
-            let all = and-eq-true-iff _ (within (config .n) (setOf (call .entry))) .0 (last .0) in
-            let shapes = and-eq-true-iff _ (sameRound (call .template) (call .entry)) .0 (all .0) in
-            let shape = and-eq-true-iff (isDecisionTemplate (call .template)) _ .0 (shapes .0) in
-            let on = round .0 (shapes .1) in
-            record { template = shape .0; entry = shape .1; same = on .0; in-rounds = on .1; members = set .0 (all .1); may = may },
-        λ d. rw (d .template, d .entry, round .1 (d .same, d .in-rounds), set .1 (d .members), d .may),
-      )
+pub decision-rule : (config : Config) (call : Call) → (isDecisionCall config call ≡ true) ↔ DecisionCall config call
+unfolding isDecisionCall
+decision-rule config call =
+    let round = same-round (call .template) (call .entry) in
+    let set = within-rule (config .n) (setOf (call .entry)) in (
+      λ h.
+          let last = and-eq-true-iff (isDecisionTemplate (call .template) && isDecision (call .entry) && sameRound (call .template) (call .entry) && within (config .n) (setOf (call .entry))) _ .0 h in
+          let may : decidable config (decidedCode (call .entry)) ≡ true = last .1 in
+          let all = and-eq-true-iff _ (within (config .n) (setOf (call .entry))) .0 (last .0) in
+          let shapes = and-eq-true-iff _ (sameRound (call .template) (call .entry)) .0 (all .0) in
+          let shape = and-eq-true-iff (isDecisionTemplate (call .template)) _ .0 (shapes .0) in
+          let on = round .0 (shapes .1) in
+          record { template = shape .0; entry = shape .1; same = on .0; in-rounds = on .1; members = set .0 (all .1); may = may },
+      λ d. rw (d .template, d .entry, round .1 (d .same, d .in-rounds), set .1 (d .members), d .may),
+    )
 
-  under-cas : hasProposals config ≡ true → call .code ≡ cas → verdictOn config tuples call ≡ casVerdict config tuples call
+module _ (config : Config) (tuples : List Tuple) (call : Call) where
+  under-cas : hasProposals config ≡ true → call .code ≡ cas → verdictOn config tuples call ≡ casVerdict config (bySearch config tuples) call
   unfolding justified
   under-cas rests e =
       under-justified config tuples call rests
       ∙ rw (ne-eqb (call .code) out (λ z. omega arith), ne-eqb (call .code) rdp (λ z. omega arith), eq-eqb (call .code) cas e)
 
-  cas-rule : (Bears : Type 0) → hasProposals config ≡ true → call .code ≡ cas → (DecisionCall config call → (bears config tuples (call .entry) ≡ true) ↔ Bears)
+  cas-rule : (Bears : Type 0) → hasProposals config ≡ true → call .code ≡ cas → (DecisionCall config call → (bears config (bySearch config tuples) (call .entry) ≡ true) ↔ Bears)
       → (verdictOn config tuples call ≡ Permit) ↔ (DecisionCall config call × Bears)
   unfolding casVerdict
   cas-rule Bears rests e borne = rw (under-cas rests e) (
     λ h.
         let tests = demanded (isDecisionCall config call) _ _ h in
-        let shaped = decision-rule .0 (tests .0) in
-        (shaped, borne shaped .0 (demanded (bears config tuples (call .entry)) _ Permit (tests .1) .0)),
-    λ h. rw (decision-rule .1 (h .0), borne (h .0) .1 (h .1)),
+        let shaped = decision-rule config call .0 (tests .0) in
+        (shaped, borne shaped .0 (demanded (bears config (bySearch config tuples) (call .entry)) _ Permit (tests .1) .0)),
+    λ h. rw (decision-rule config call .1 (h .0), borne (h .0) .1 (h .1)),
   )
 
   -- a cas that is permitted has the shape of one, whatever is decided
   pub decision-call : hasProposals config ≡ true → call .code ≡ cas → verdictOn config tuples call ≡ Permit → DecisionCall config call
-  decision-call rests e permitted = cas-rule (bears config tuples (call .entry) ≡ true) rests e (λ shaped. (λ b. b, λ b. b)) .0 permitted .0
+  decision-call rests e permitted = cas-rule (bears config (bySearch config tuples) (call .entry) ≡ true) rests e (λ shaped. (λ b. b, λ b. b)) .0 permitted .0
 
 -- what a set bears, of a cas that has the shapes
 module _ (config : Config) (tuples : List Tuple) (call : Call) (shaped : DecisionCall config call) where
@@ -209,7 +221,7 @@ module _ (config : Config) (tuples : List Tuple) (call : Call) (shaped : Decisio
   abbrev set : ℕ
   set = setOf entry
 
-  offset-borne : (decidedCode entry ≡ bottom → ⊥) → (bears config tuples entry ≡ true) ↔ BearsOffset config tuples entry
+  offset-borne : (decidedCode entry ≡ bottom → ⊥) → (bears config (bySearch config tuples) entry ≡ true) ↔ BearsOffset config tuples entry
   unfolding bears bearsOffset everyProposed
   offset-borne some =
       let w = decidedCode entry in
@@ -221,7 +233,7 @@ module _ (config : Config) (tuples : List Tuple) (call : Call) (shaped : Decisio
         λ b. rw (ne-eqb _ _ some, le-leb _ _ (b .enough)) (each .1 (b .each)),
       )
 
-  bottom-borne : decidedCode entry ≡ bottom → (bears config tuples entry ≡ true) ↔ BearsBottom config tuples entry
+  bottom-borne : decidedCode entry ≡ bottom → (bears config (bySearch config tuples) entry ≡ true) ↔ BearsBottom config tuples entry
   unfolding bears bearsBottom everyProposed
   bottom-borne none =
       let each = every-member (proposed config tuples Some round) (λ k. proposed-rules config tuples round k .some) (config .n) set (shaped .members) in
@@ -261,39 +273,37 @@ data Cause (config : Config) (tuples : List Tuple) (call : Call) : Verdict → T
   lacks : Unborne config tuples call → Cause config tuples call (Refuse (refusal 13))
 
 module _ (config : Config) (tuples : List Tuple) (call : Call) where
-  taken-rule : isFree config tuples (call .entry) ≡ false → Placed tuples (roundOf (call .entry)) (processOf (call .entry))
+  taken-rule : isFree (bySearch config tuples) (call .entry) ≡ false → Placed tuples (roundOf (call .entry)) (processOf (call .entry))
   unfolding isFree
   taken-rule taken = proposed-rules config tuples (roundOf (call .entry)) (processOf (call .entry)) .taken .0 (not-false _ taken)
 
-  out-cause : hasProposals config ≡ true → call .code ≡ out → Cause config tuples call (outVerdict config tuples call)
-  unfolding outVerdict isOwnProposal
+  out-cause : hasProposals config ≡ true → call .code ≡ out → Cause config tuples call (outVerdict config (bySearch config tuples) call)
+  unfolding outVerdict
   out-cause rests e =
-      let entry = call .entry in
       cases (isOwnProposal config call)
-      (λ own. cases (isFree config tuples entry)
+      (λ own. cases (isFree (bySearch config tuples) (call .entry))
       (λ free. rw (own, free) permits)
       (λ taken.
-      let parts = four (isProposal entry) (inRounds (roundOf entry)) (eqb (processOf entry) (call .process)) (offered config (proposedCode entry)) own in
-      let same : processOf entry ≡ call .process = eqb-true _ _ (parts .2) in
+      let parts = own-parts config call own in
       rw (own, taken) (repeats (record {
         policy = rests;
         code = e;
         shape = parts .0;
-        in-rounds = ltb-true _ _ (parts .1);
-        own = same;
+        in-rounds = parts .1;
+        own = parts .2;
         may = parts .3;
-        stands = rw same at (taken-rule taken);
+        stands = rw (parts .2) at (taken-rule taken);
       }))))
       (λ other. rw other denies)
 
-  cas-cause : hasProposals config ≡ true → call .code ≡ cas → Cause config tuples call (casVerdict config tuples call)
+  cas-cause : hasProposals config ≡ true → call .code ≡ cas → Cause config tuples call (casVerdict config (bySearch config tuples) call)
   unfolding casVerdict
   cas-cause rests e =
       cases (isDecisionCall config call)
-      (λ shapes. cases (bears config tuples (call .entry))
+      (λ shapes. cases (bears config (bySearch config tuples) (call .entry))
       (λ borne. rw (shapes, borne) permits)
       (λ unborne.
-      let shaped = decision-rule config tuples call .0 shapes in
+      let shaped = decision-rule config call .0 shapes in
       rw (shapes, unborne) (lacks (record {
         policy = rests;
         code = e;
@@ -367,13 +377,13 @@ unfolding casVerdict
 unborne-rule config tuples call = (
   cause-unborne (cause config tuples call),
   λ u. let entry = call .entry in
-      let none : bears config tuples entry ≡ false =
-      cases (bears config tuples entry)
+      let none : bears config (bySearch config tuples) entry ≡ false =
+      cases (bears config (bySearch config tuples) entry)
       (λ b. absurd (cases (eqb (decidedCode entry) bottom)
       (λ e. let none = eqb-true _ _ e in u .mark none (bottom-borne config tuples call (u .shaped) none .0 b))
       (λ e. let some = eqb-false _ _ e in u .offset some (offset-borne config tuples call (u .shaped) some .0 b))))
       (λ b. b) in
-      rw (under-cas config tuples call (u .policy) (u .code), decision-rule config tuples call .1 (u .shaped), none),
+      rw (under-cas config tuples call (u .policy) (u .code), decision-rule config call .1 (u .shaped), none),
 )
 
 cause-denied : {config : Config} {tuples : List Tuple} {call : Call} {v : Verdict} → Cause config tuples call v → (v ≡ Permit → ⊥) → (SecondProposal config tuples call → ⊥)

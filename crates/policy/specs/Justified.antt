@@ -1,8 +1,7 @@
--- Document 01, "Policies", 2 (Fig. 5), and document 02, 2.1 and 2.3: policies 2 and 3, on the tuples that the space holds. They differ in what may be
--- proposed and decided (`offered`, `decidable`).
+-- Document 01, "Policies", 2 (Fig. 5), and document 02, 2.1, 2.3 and 2.9: policies 2 and 3, on what is answered to the questions that they ask about the
+-- proposals of the space. They differ in what may be proposed and decided (`offered`, `decidable`).
 use Prim.Native.Nat.{ℕ, _+_}
 use mathlib.Core.Bool.{Bool, cond, not, _&&_}
-use mathlib.Core.List.{List}
 use lib.Count.{ones}
 use lib.Dec.{leb, eqb}
 use Rattle.policy.specs.declared.verdicts.Verdict.{Verdict}
@@ -11,9 +10,10 @@ use Rattle.policy.specs.Default.{bearsBottom}
 use Rattle.policy.specs.Shapes.{sameRound, isDecisionTemplate, isDecision, decidedCode, setOf}
 use Rattle.policy.specs.Verdicts.{demand}
 use Rattle.space.specs.declared.config.Config.{Config}
-use Rattle.space.specs.declared.proposal.Sought.the-variants.{One, Any}
+use Rattle.space.specs.declared.proposal.Sought.the-variants.{One}
 use Rattle.space.specs.Members.{within}
-use Rattle.space.specs.Proposals.{offered, decidable, proposed, everyProposed}
+use Rattle.space.specs.Proposals.{offered, decidable}
+use Rattle.space.specs.Questions.{Asked}
 use Rattle.space.specs.Shapes.{roundOf, inRounds, isProposal, processOf, proposedCode}
 use Rattle.tuple.specs.declared.field.Tuple.{Tuple}
 use Rattle.tuple.specs.declared.field.Call.{Call}
@@ -28,13 +28,13 @@ unfoldable pub isOwnProposal : Config → Call → Bool
 isOwnProposal config call =
     isProposal (call .entry) && inRounds (roundOf (call .entry)) && eqb (processOf (call .entry)) (call .process) && offered config (proposedCode (call .entry))
 
--- no tuple (word 1, r, p, some offset or bottom) stands there
-unfoldable pub isFree : Config → List Tuple → Tuple → Bool
-isFree config tuples entry = not (proposed config tuples Any (roundOf entry) (processOf entry))
+-- the place of its round and process is not taken: no tuple (word 1, r, p, some offset or bottom) stands there
+unfoldable pub isFree : Asked → Tuple → Bool
+isFree asked entry = not (asked .taken (roundOf entry) (processOf entry))
 
-unfoldable pub outVerdict : Config → List Tuple → Call → Verdict
-outVerdict config tuples call =
-    demand (isOwnProposal config call) (refusal 7) (demand (isFree config tuples (call .entry)) (refusal 12) Permit)
+unfoldable pub outVerdict : Config → Asked → Call → Verdict
+outVerdict config asked call =
+    demand (isOwnProposal config call) (refusal 7) (demand (isFree asked (call .entry)) (refusal 12) Permit)
 
 -- ---- cas
 
@@ -48,23 +48,23 @@ isDecisionCall config call =
     && decidable config (decidedCode (call .entry))
 
 -- the set bears an offset: at least t + 1 members, each of which has proposed it
-unfoldable pub bearsOffset : Config → List Tuple → ℕ → ℕ → ℕ → Bool
-bearsOffset config tuples round set w = leb (config .t + 1) (ones set) && everyProposed config tuples (One w) round set
+unfoldable pub bearsOffset : Config → Asked → ℕ → ℕ → ℕ → Bool
+bearsOffset config asked round set w = leb (config .t + 1) (ones set) && asked .every (One w) round set
 
-unfoldable pub bears : Config → List Tuple → Tuple → Bool
-bears config tuples entry =
-    cond (eqb (decidedCode entry) bottom) (bearsBottom config tuples (roundOf entry) (setOf entry))
-    (bearsOffset config tuples (roundOf entry) (setOf entry) (decidedCode entry))
+unfoldable pub bears : Config → Asked → Tuple → Bool
+bears config asked entry =
+    cond (eqb (decidedCode entry) bottom) (bearsBottom config asked (roundOf entry) (setOf entry))
+    (bearsOffset config asked (roundOf entry) (setOf entry) (decidedCode entry))
 
-unfoldable pub casVerdict : Config → List Tuple → Call → Verdict
-casVerdict config tuples call =
-    demand (isDecisionCall config call) (refusal 7) (demand (bears config tuples (call .entry)) (refusal 13) Permit)
+unfoldable pub casVerdict : Config → Asked → Call → Verdict
+casVerdict config asked call =
+    demand (isDecisionCall config call) (refusal 7) (demand (bears config asked (call .entry)) (refusal 13) Permit)
 
 -- ---- by the call
 
 -- rdp is always permitted, inp never
-unfoldable pub justified : Config → List Tuple → Call → Verdict
-justified config tuples call =
-    cond (eqb (call .code) out) (outVerdict config tuples call)
+unfoldable pub justified : Config → Asked → Call → Verdict
+justified config asked call =
+    cond (eqb (call .code) out) (outVerdict config asked call)
     (cond (eqb (call .code) rdp) Permit
-    (cond (eqb (call .code) cas) (casVerdict config tuples call) (Refuse (refusal 7))))
+    (cond (eqb (call .code) cas) (casVerdict config asked call) (Refuse (refusal 7))))

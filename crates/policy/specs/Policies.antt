@@ -11,6 +11,7 @@ use Rattle.policy.specs.Weak.{weak}
 use Rattle.space.specs.declared.config.Config.{Config}
 use Rattle.space.specs.declared.space.Space.{Space}
 use Rattle.space.specs.Configs.{hasProposals, hasList}
+use Rattle.space.specs.Questions.{bySearch}
 use Rattle.space.specs.Spaces.{held, bounded}
 use Rattle.tuple.specs.declared.field.Tuple.{Tuple}
 use Rattle.tuple.specs.declared.field.Call.{Call}
@@ -21,7 +22,7 @@ unfoldable pub verdictOn : Config → List Tuple → Call → Verdict
 verdictOn config tuples call =
     cond (eqb (config .policy) 0) Permit
     (cond (eqb (config .policy) 1) (weak call)
-    (cond (hasProposals config) (justified config tuples call)
+    (cond (hasProposals config) (justified config (bySearch config tuples) call)
     (cond (hasList config) (shared config tuples call) (Refuse (refusal 7)))))
 
 -- on a space whose configuration or count is out of bounds it is 1

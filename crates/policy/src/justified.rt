@@ -3,6 +3,7 @@ ghost use mathlib.Core.Path.{_≡_};
 ghost use mathlib.Core.Bool.{true};
 ghost use Rattle.policy.specs.Justified.{isOwnProposal, isFree, outVerdict, isDecisionCall, bearsOffset, bears as bears·, casVerdict, justified as justified·};
 ghost use Rattle.space.specs.Configs.{sound};
+ghost use Rattle.space.specs.Questions.{bySearch};
 ghost use Rattle.space.specs.Spaces.{held};
 use crate::default::bears_bottom;
 use crate::shape::is_decision;
@@ -32,7 +33,7 @@ use tuple::all_four;
 // The verdict of policies 2 (Fig. 5) and 3.
 pub(crate) fn justified(space: Space, call: Call) -> Verdict
     requires { ⌜ sound (space .config) ≡ true ⌝ }
-    ensures { λ r. ⌜ r ≡ justified· (space .config) (held space) call ⌝ }
+    ensures { λ r. ⌜ r ≡ justified· (space .config) (bySearch (space .config) (held space)) call ⌝ }
 {
     let code = call.code;
     if code == OUT {
@@ -50,7 +51,7 @@ pub(crate) fn justified(space: Space, call: Call) -> Verdict
 // ---- out
 
 fn out_verdict(space: Space, call: Call) -> Verdict
-    ensures { λ r. ⌜ r ≡ outVerdict (space .config) (held space) call ⌝ }
+    ensures { λ r. ⌜ r ≡ outVerdict (space .config) (bySearch (space .config) (held space)) call ⌝ }
 {
     let config = space.config;
     let entry = call.entry;
@@ -82,7 +83,7 @@ fn is_own_proposal(config: Config, call: Call) -> bool
 
 // Whether no proposal of that round and process stands in the space, of an offset or bottom.
 fn is_free(space: Space, entry: Tuple) -> bool
-    ensures { λ r. ⌜ r ≡ isFree (space .config) (held space) entry ⌝ }
+    ensures { λ r. ⌜ r ≡ isFree (bySearch (space .config) (held space)) entry ⌝ }
 {
     let second = entry.fields[1];
     let third = entry.fields[2];
@@ -93,7 +94,7 @@ fn is_free(space: Space, entry: Tuple) -> bool
 
 fn cas_verdict(space: Space, call: Call) -> Verdict
     requires { ⌜ sound (space .config) ≡ true ⌝ }
-    ensures { λ r. ⌜ r ≡ casVerdict (space .config) (held space) call ⌝ }
+    ensures { λ r. ⌜ r ≡ casVerdict (space .config) (bySearch (space .config) (held space)) call ⌝ }
 {
     let config = space.config;
     let entry = call.entry;
@@ -126,7 +127,7 @@ fn is_decision_call(config: Config, call: Call) -> bool
 // Whether the set of a decision bears its offset, or bottom.
 fn bears(space: Space, entry: Tuple) -> bool
     requires { ⌜ sound (space .config) ≡ true ⌝ }
-    ensures { λ r. ⌜ r ≡ bears· (space .config) (held space) entry ⌝ }
+    ensures { λ r. ⌜ r ≡ bears· (space .config) (bySearch (space .config) (held space)) entry ⌝ }
 {
     let second = entry.fields[1];
     let third = entry.fields[2];
@@ -141,7 +142,7 @@ fn bears(space: Space, entry: Tuple) -> bool
 // Whether a set bears an offset: t + 1 members that have all proposed it.
 fn bears_offset(space: Space, round: u64, set: u64, code: u64) -> bool
     requires { ⌜ sound (space .config) ≡ true ⌝ }
-    ensures { λ r. ⌜ r ≡ bearsOffset (space .config) (held space) round set code ⌝ }
+    ensures { λ r. ⌜ r ≡ bearsOffset (space .config) (bySearch (space .config) (held space)) round set code ⌝ }
 {
     let t = space.config.t;
     if u64::count_ones(set) < (t + 1) as u32 {

@@ -136,7 +136,8 @@ justified-only config tuples call rests h =
     (λ b. cases (eqb (call .code) cas) (λ c. inr (inr (eqb-true _ _ c)))
     (λ c. let refused = rw (a, b, c) at ruled in let z : _≡_ {A = ℕ} 0 1 = cc in absurd (omega arith))))
 
-free-rule : (config : Config) (tuples : List Tuple) (entry : Tuple) → (isFree (bySearch config tuples) entry ≡ true) ↔ (Placed tuples (roundOf entry) (processOf entry) → ⊥)
+free-rule : (config : Config) (tuples : List Tuple) (entry : Tuple)
+    → (isFree (bySearch config tuples) entry ≡ true) ↔ (Placed tuples (roundOf entry) (processOf entry) → ⊥)
 unfolding isFree
 free-rule config tuples entry =
     let taken = proposed-rules config tuples (roundOf entry) (processOf entry) .taken in (
@@ -195,7 +196,8 @@ module _ (config : Config) (tuples : List Tuple) (call : Call) where
       under-justified config tuples call rests
       ∙ rw (ne-eqb (call .code) out (λ z. omega arith), ne-eqb (call .code) rdp (λ z. omega arith), eq-eqb (call .code) cas e)
 
-  cas-rule : (Bears : Type 0) → hasProposals config ≡ true → call .code ≡ cas → (DecisionCall config call → (bears config (bySearch config tuples) (call .entry) ≡ true) ↔ Bears)
+  cas-rule : (Bears : Type 0) → hasProposals config ≡ true → call .code ≡ cas
+      → (DecisionCall config call → (bears config (bySearch config tuples) (call .entry) ≡ true) ↔ Bears)
       → (verdictOn config tuples call ≡ Permit) ↔ (DecisionCall config call × Bears)
   unfolding casVerdict
   cas-rule Bears rests e borne = rw (under-cas rests e) (

@@ -11,8 +11,8 @@ use Rattle.calls.specs.declared.turn.Applied.{Applied}
 use Rattle.calls.specs.Changes.{carriedOut}
 use Rattle.calls.specs.Laws.{Denied, DeniedRule, Unchanged, Kept}
 use Rattle.calls.specs.Effects.{effect}
-use Rattle.calls.specs.Turns.{firstRefusal, judged, carriedBy, applied}
-use Rattle.calls.proofs.CallSteps.{Puts, Moves, moves, denial-late, denial-never, Steps, formed-bounded, steps}
+use Rattle.calls.specs.Turns.{firstRefusal, searched, carriedBy, applied}
+use Rattle.calls.proofs.CallSteps.{Puts, Moves, moves, denial-late, denial-never, Steps, steps}
 use Rattle.calls.proofs.RunSteps.{next, run-tidy, run-formed}
 use Rattle.policy.specs.Laws.{Denial}
 use Rattle.policy.specs.declared.verdicts.Verdict.the-variants.{Permit}
@@ -56,10 +56,10 @@ module _ (space : Space) (call : Call) where
       ap (carriedOut space (call .entry)) (moves-refused why (moves (held space) call sound) r .1)
 
 pub denied-rule : DeniedRule
-unfolding applied judged firstRefusal verdict known
+unfolding applied searched firstRefusal known
 denied-rule space call why denial = (
   steps-denied space call why denial (steps space call),
-  λ d. rw (d .formed, formed-bounded space (d .formed), d .sound, le-leb 1 (call .process) (d .known .0), le-leb (call .process) (space .config .n) (d .known .1), d .forbidden),
+  λ d. rw (d .formed, d .sound, le-leb 1 (call .process) (d .known .0), le-leb (call .process) (space .config .n) (d .known .1), d .forbidden),
 )
 
 pub unchanged : Unchanged
@@ -75,6 +75,6 @@ kept space call tidy formed =
 -- a call without fault by one of 1 to n that is permitted on a well-formed space does what it does to the tuples
 pub permitted-applied : (space : Space) (call : Call) → wellFormed space ≡ true → callFault call ≡ Absent → (1 ≤ call .process) × (call .process ≤ space .config .n)
     → verdictOn (space .config) (held space) call ≡ Permit → applied space call ≡ carriedBy space call (effect (held space) call)
-unfolding applied judged firstRefusal verdict known
+unfolding applied searched firstRefusal known
 permitted-applied space call formed faultless member permitted =
-    rw (formed, formed-bounded space formed, faultless, le-leb 1 (call .process) (member .0), le-leb (call .process) (space .config .n) (member .1), permitted)
+    rw (formed, faultless, le-leb 1 (call .process) (member .0), le-leb (call .process) (space .config .n) (member .1), permitted)

@@ -4,7 +4,7 @@ use Prim.Native.Nat.{ℕ, _+_, _≤_, _<_}
 use native.Mathlib.Omega.{arith}
 use mathlib.Core.Bool.{Bool, true, false, cond, not, _&&_, _||_, and-eq-true-iff}
 use mathlib.Core.List.{List, [], _∷_, _++_, List·Memᴰ·append-cases, List·Memᴰ·eq-of-singleton}
-use mathlib.Core.Logic.{inl, inr, ⊎-elim}
+use mathlib.Core.Logic.{_⊎_, inl, inr, ⊎-elim}
 use lib.ListN.{length, take, length-append, length-take, length-drop}
 use lib.Dec.{leb, ltb, eqb}
 use borrow.Author.Tests.{ltb-true, ltb-false, eqb-true, eqb-false}
@@ -16,8 +16,9 @@ use Rattle.calls.specs.declared.turn.Applied.{Applied}
 use Rattle.calls.specs.Changes.{without, carriedOut}
 use Rattle.calls.specs.Effects as effects
 use Rattle.calls.specs.Laws.{Denied}
-use Rattle.calls.specs.Turns.{behindFault, firstRefusal, judgedBy, judged, carriedBy, applied}
+use Rattle.calls.specs.Turns.{behindFault, firstRefusal, judgedBy, searched, carriedBy, applied}
 use Rattle.calls.proofs.ChangeLaws.{carried-rules}
+use Rattle.calls.proofs.TabledSteps.{taken-bare, put-fits, tabled-more, tabled-bare}
 use Rattle.policy.specs.declared.verdicts.Verdict.the-variants.{Permit}
 use Rattle.policy.specs.Laws.{Denial}
 use Rattle.policy.specs.Laws.Denial.{denied, second, unborne}
@@ -155,36 +156,42 @@ changed tuples entry Append = tuples ++ (entry ∷ [])
 changed tuples entry (Remove i) = without i tuples
 
 module _ {tuples : List Tuple} {call : Call} where
-  pub moves-carried : {how : Outcome} {change : Change} (config : Config) → length tuples ≤ capacity → Moves tuples call how change
+  pub moves-carried : {how : Outcome} {change : Change} (config : Config) → length tuples ≤ capacity → verdictOn config tuples call ≡ Permit → Moves tuples call how change
       → carriedOut (spaceOf config tuples) (call .entry) change ≡ spaceOf config (changed tuples (call .entry) change)
   unfolding carriedOut
-  moves-carried config few (adds p room) = carried-rules config tuples (call .entry) .append room
-  moves-carried config few (full p none) = refl
-  moves-carried config few (reads e) = refl
-  moves-carried config few lacks = refl
-  moves-carried config few keeps = refl
-  moves-carried config few (takes i e at inside) = carried-rules config tuples (call .entry) .remove i inside few
+  moves-carried config few may (adds p room) = carried-rules config tuples (call .entry) .append room
+  moves-carried config few may (full p none) = refl
+  moves-carried config few may (reads e) = refl
+  moves-carried config few may lacks = refl
+  moves-carried config few may keeps = refl
+  moves-carried config few may (takes i e at inside) = carried-rules config tuples (call .entry) .remove i inside few (taken-bare config tuples call may e)
 
   pub puts-entry : {how : Outcome} → callFault call ≡ Absent → Puts tuples call how → isEntry (call .entry) ≡ true
   unfolding usesEntry
   puts-entry sound (by-out e) = entry-sound call sound (rw e)
   puts-entry sound (by-cas e none) = entry-sound call sound (rw e)
 
-  pub moves-lawful : {how : Outcome} {change : Change} → callFault call ≡ Absent → Lawful tuples → Moves tuples call how change
-      → Lawful (changed tuples (call .entry) change)
-  moves-lawful sound lawful (adds p room) =
+  puts-code : {how : Outcome} → Puts tuples call how → (call .code ≡ out) ⊎ (call .code ≡ cas)
+  puts-code (by-out e) = inl e
+  puts-code (by-cas e none) = inr e
+
+  pub moves-lawful : {how : Outcome} {change : Change} {config : Config} → callFault call ≡ Absent → Lawful config tuples → verdictOn config tuples call ≡ Permit
+      → Moves tuples call how change → Lawful config (changed tuples (call .entry) change)
+  moves-lawful {config = config} sound lawful may (adds p room) =
       record {
         few = simp length-append (omega arith);
         entries = λ tuple m. ⊎-elim (lawful .entries tuple) (λ n. let same : tuple ≡ call .entry = List·Memᴰ·eq-of-singleton n in rw same (puts-entry sound p)) (List·Memᴰ·append-cases tuples m);
+        table = tabled-more config tuples (call .entry) (lawful .table) (put-fits config tuples call may (lawful .table) (puts-code p));
       }
-  moves-lawful sound lawful (full p none) = lawful
-  moves-lawful sound lawful (reads e) = lawful
-  moves-lawful sound lawful lacks = lawful
-  moves-lawful sound lawful keeps = lawful
-  moves-lawful sound lawful (takes i e at inside) =
+  moves-lawful sound lawful may (full p none) = lawful
+  moves-lawful sound lawful may (reads e) = lawful
+  moves-lawful sound lawful may lacks = lawful
+  moves-lawful sound lawful may keeps = lawful
+  moves-lawful {config = config} sound lawful may (takes i e at inside) =
       record {
         few = simp (length-append, length-take, length-drop) (omega arith);
         entries = λ tuple m. lawful .entries tuple (⊎-elim (mem-take i tuples) (mem-drop (i + 1) tuples) (List·Memᴰ·append-cases (take i tuples) m));
+        table = tabled-bare config (without i tuples) (taken-bare config tuples call may e);
       }
 
 -- ---- the space
@@ -207,29 +214,24 @@ pub data Steps (space : Space) (call : Call) : Applied → Type 0 where
       → verdictOn (space .config) (held space) call ≡ Permit
       → Steps space call (carriedBy space call (effects.effect (held space) call))
 
-pub formed-bounded : (space : Space) → wellFormed space ≡ true → bounded space ≡ true
-unfolding wellFormed
-formed-bounded space formed = and-eq-true-iff (bounded space) _ .0 formed .0
-
 module _ (space : Space) (call : Call) where
   module _ (formed : wellFormed space ≡ true) where
     verdict-steps : callFault call ≡ Absent → known (space .config) (call .process) ≡ true
-        → Steps space call (carriedBy space call (judgedBy (held space) call (verdict space call)))
-    unfolding known verdict
+        → Steps space call (carriedBy space call (judgedBy (held space) call (verdictOn (space .config) (held space) call)))
+    unfolding known
     verdict-steps sound k =
-        let bound = formed-bounded space formed in
         let member = between 1 (call .process) (space .config .n) k in
         elim (verdict-rule (space .config) (held space) call) [
-          | inl p ↦ rw (bound, p) (obeys formed sound member p)
-          | inr d ↦ rw (bound, d .2) (denies {why = d .0} (record { cause = d .1; formed = formed; sound = sound; known = member; forbidden = d .2 }))
+          | inl p ↦ rw p (obeys formed sound member p)
+          | inr d ↦ rw (d .2) (denies {why = d .0} (record { cause = d .1; formed = formed; sound = sound; known = member; forbidden = d .2 }))
         ]
 
     fault-steps : (fault : Fault) → callFault call ≡ fault → Early fault
-        → Steps space call (carriedBy space call (judgedBy (held space) call (behindFault fault (demand (known (space .config) (call .process)) (refusal 6) (verdict space call)))))
+        → Steps space call (carriedBy space call (judgedBy (held space) call (behindFault fault (demand (known (space .config) (call .process)) (refusal 6) (verdictOn (space .config) (held space) call)))))
     fault-steps Absent e early =
         cases (known (space .config) (call .process)) (λ k. rw k (verdict-steps e k)) (λ k. rw k (refuses (refusal 6) (omega arith)))
     fault-steps (Present why) e early = refuses why (omega arith)
 
   pub steps : Steps space call (applied space call)
-  unfolding applied judged firstRefusal
-  steps = cases (wellFormed space) (λ e. rw (e, formed-bounded space e) (fault-steps e (callFault call) refl (call-early call))) (λ e. rw e (refuses (refusal 1) (omega arith)))
+  unfolding applied searched firstRefusal
+  steps = cases (wellFormed space) (λ e. rw e (fault-steps e (callFault call) refl (call-early call))) (λ e. rw e (refuses (refusal 1) (omega arith)))

@@ -2,6 +2,7 @@
 use mathlib.Core.Path.{_≡_, refl, sym, ap, ap₂, _∙_}
 use Prim.Native.Nat.{ℕ, suc, _+_, _-_, _≤_, _<_}
 use native.Mathlib.Omega.{arith}
+use mathlib.Core.Bool.{false}
 use mathlib.Core.List.{List, [], _∷_, _++_, append-assoc}
 use lib.ListN.{length, take, drop, getD, set, replicate, length-append, length-take, length-drop, length-set, take-append-drop}
 use lib.Seq.{length-take-le, take-append-le, drop-append-le, append-snoc, take-at, drop-at, set-at, set-split, take-suc-set, drop-set-lt}
@@ -12,6 +13,9 @@ use Rattle.space.specs.declared.config.Config.{Config}
 use Rattle.space.specs.declared.space.Space.{Space}
 use Rattle.space.specs.Spaces.{held, spaceOf}
 use Rattle.space.proofs.SpaceRules.{held-of}
+use Rattle.space.specs.Configs.{hasProposals}
+use Rattle.space.specs.Tables.{tableOf}
+use Rattle.calls.proofs.TabledSteps.{table-more, table-bare}
 use Rattle.tuple.specs.declared.field.Tuple.{Tuple}
 use Rattle.tuple.specs.Bounds.{capacity}
 use Rattle.tuple.specs.Fields.{blankTuple}
@@ -34,6 +38,7 @@ pub record Moved (first : Space) (at : ℕ) (now : Space) (i : ℕ) : Type 0 whe
   pub behind : at < i
   pub inside : i ≤ first .count
   pub config : now .config ≡ first .config
+  pub table : now .table ≡ first .table
   pub long : length (now .tuples) ≡ capacity
   pub same : take (i - 1) (now .tuples) ++ drop i (now .tuples) ≡ without at (first .tuples)
 
@@ -45,13 +50,14 @@ module _ (first : Space) (few : first .count ≤ capacity) (long : length (first
         behind = omega arith;
         inside = omega arith;
         config = refl;
+        table = refl;
         long = long;
         same = ap (λ (k : ℕ). take k (first .tuples) ++ drop (at + 1) (first .tuples)) place;
       }
 
   module _ (now : Space) (i : ℕ) (moved : Moved first at now i) where
     pub moved-more : i < first .count → (other : Tuple)
-        → Moved first at (record { config = now .config; count = now .count; tuples = set (now .tuples) (i - 1) (getD (now .tuples) i other) }) (i + 1)
+        → Moved first at (record { config = now .config; count = now .count; tuples = set (now .tuples) (i - 1) (getD (now .tuples) i other); table = now .table }) (i + 1)
     moved-more h other =
         let tuple = getD (now .tuples) i other in
         let last : i + 1 - 1 ≡ suc (i - 1) = omega (arith, moved .behind) in
@@ -62,6 +68,7 @@ module _ (first : Space) (few : first .count ≤ capacity) (long : length (first
           behind = omega (arith, moved .behind);
           inside = omega arith;
           config = moved .config;
+          table = moved .table;
           long = length-set (now .tuples) (i - 1) tuple ∙ moved .long;
           same =
               ap₂ (λ (a b : List Tuple). a ++ b) front back
@@ -72,7 +79,7 @@ module _ (first : Space) (few : first .count ≤ capacity) (long : length (first
 
     -- and a blank is set where the last one stood
     pub moved-all : first .count ≤ i → (blank : Tuple) → blank ≡ blankTuple
-        → record { config = now .config; count = first .count - 1; tuples = set (now .tuples) (first .count - 1) blank } ≡ removed first at
+        → record { config = now .config; count = first .count - 1; tuples = set (now .tuples) (first .count - 1) blank; table = now .table } ≡ removed first at
     moved-all h blank is-blank =
         let count = first .count in
         let rest = without at (held first) in
@@ -97,7 +104,7 @@ module _ (first : Space) (few : first .count ≤ capacity) (long : length (first
         ∙ ap (λ (k : ℕ). take (count - 1) (now .tuples) ++ blank ∷ drop k (now .tuples)) (sym last)
         ∙ ap₂ (λ (a b : List Tuple). a ++ blank ∷ b) front back
         ∙ ap (λ (t : Tuple). rest ++ t ∷ behind) is-blank in
-        λ k. record { config = moved .config k; count = count - 1; tuples = stored k }
+        λ k. record { config = moved .config k; count = count - 1; tuples = stored k; table = moved .table k }
 
 -- ---- on the space of these tuples
 
@@ -119,11 +126,12 @@ module _ (config : Config) (tuples : List Tuple) where
       ∙ set-at tuples blankTuple (blanks (count + 1)) entry count refl
       ∙ sym (append-snoc tuples entry (blanks (count + 1)))
       ∙ ap (λ (n : ℕ). tuples ++ (entry ∷ []) ++ blanks n) long in
-      λ k. record { config = config; count = long k; tuples = stored k }
+      λ k. record { config = config; count = long k; tuples = stored k; table = table-more config tuples entry k }
 
   -- behind those left stands one blank more
-  remove-space : (i : ℕ) → i < length tuples → length tuples ≤ capacity → removed (spaceOf config tuples) i ≡ spaceOf config (without i tuples)
-  remove-space i h few =
+  remove-space : (i : ℕ) → i < length tuples → length tuples ≤ capacity → hasProposals config ≡ false
+      → removed (spaceOf config tuples) i ≡ spaceOf config (without i tuples)
+  remove-space i h few bare =
       let count = length tuples in
       let rest = without i tuples in
       let left : count - 1 ≡ length rest = sym (without-length i tuples h) in
@@ -131,12 +139,13 @@ module _ (config : Config) (tuples : List Tuple) where
       let stored : without i (held (spaceOf config tuples)) ++ (blankTuple ∷ drop count (tuples ++ blanks count)) ≡ rest ++ blanks (length rest) =
       ap₂ (λ (t b : List Tuple). without i t ++ (blankTuple ∷ b)) (held-of config tuples) (drop-at tuples (blanks count) count refl)
       ∙ ap (λ (l : List Tuple). rest ++ l) (ap (λ (n : ℕ). blankTuple ∷ blanks n) last ∙ sym (fewer (count - 1) (omega arith)) ∙ ap blanks left) in
-      λ k. record { config = config; count = left k; tuples = stored k }
+      let table : tableOf config tuples ≡ tableOf config (without i tuples) = table-bare config tuples bare ∙ sym (table-bare config (without i tuples) bare) in
+      λ k. record { config = config; count = left k; tuples = stored k; table = table k }
 
 pub carried-rules : CarriedRules
 unfolding carriedOut
 carried-rules config tuples entry =
     record {
       append = λ room. rw (lt-ltb (length tuples) capacity room) (append-space config tuples entry room);
-      remove = λ i h few. rw (le-leb (length tuples) capacity few, lt-ltb i (length tuples) h) (remove-space config tuples i h few);
+      remove = λ i h few bare. rw (le-leb (length tuples) capacity few, lt-ltb i (length tuples) h) (remove-space config tuples i h few bare);
     }

@@ -176,7 +176,7 @@ module _ (config : Config) (safe : sound config ≡ true) (deciding : Deciding c
   stepped (obeys formed fault known p) =
       let same : held (spaceOf config tuples) ≡ tuples = held-of config tuples in
       let moved = moves tuples call fault in
-      rw same (obeyed known (rw same at p) moved refl (moves-carried config (formed-few (spaceOf config tuples) formed) moved))
+      rw same (obeyed known (rw same at p) moved refl (moves-carried config (formed-few (spaceOf config tuples) formed) (rw same at p) moved))
 
   pub step : Step config tuples call (applied (spaceOf config tuples) call)
   step = stepped (steps (spaceOf config tuples) call)

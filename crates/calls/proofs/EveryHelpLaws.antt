@@ -15,7 +15,7 @@ use Rattle.calls.specs.Changes.{carriedOut}
 use Rattle.calls.specs.Effects.{effect}
 use Rattle.calls.specs.ListWitnesses.{HelpedRun, EveryHelp, AloneRun, AloneRuns}
 use Rattle.calls.specs.Lists.{listOf, listAfter, listFor, listCas, announceOut}
-use Rattle.calls.specs.Turns.{firstRefusal, judged, applied, turnsFrom, lastOf, after, last}
+use Rattle.calls.specs.Turns.{firstRefusal, searched, applied, turnsFrom, lastOf, after, last}
 use Rattle.calls.proofs.CallSteps.{Moves}
 use Rattle.calls.proofs.HelpingLaws.{prefers-whole}
 use Rattle.calls.proofs.ListSteps.{listed-mem, mem-listed, list-append, orderly-all, announcement-other, Shared, shared-none}
@@ -30,7 +30,8 @@ use Rattle.space.specs.declared.space.Space.{Space}
 use Rattle.space.specs.Announcements.{isAnnouncement, announces, announcedOf, announcerOf, Announcing, Oldest}
 use Rattle.space.specs.Configs.{plainSound, sound, hasProposals, hasList, known}
 use Rattle.space.specs.Lists.{listedProcess, isListTuple, positionOf, serialOf, lists, isThere, isFilled, isListed, Listed}
-use Rattle.space.specs.Spaces.{held, spaceOf, placeSound, placesFrom, bounded, wellFormed, freshOf}
+use Rattle.space.specs.Spaces.{held, spaceOf, placeSound, placesFrom, tableSound, bounded, wellFormed, freshOf}
+use Rattle.space.specs.Tables.{belongs, entered, tableFrom, emptyTable, fitsTable, tabledFrom, sameFrom}
 use Rattle.space.proofs.ConfigLaws.{sound-rule, sound-range}
 use Rattle.space.proofs.ListLaws.{list-tuple}
 use Rattle.space.proofs.SpaceRules.{Lawful, held-of, stands}
@@ -87,7 +88,7 @@ module _ (config : Config) (safe : sound config ≡ true) (five : config .policy
   -- only the process has announced something, and all entries are the helper's, under their positions as serials
   record State (tuples : List Tuple) : Type 0 where
     shared : Shared config tuples
-    lawful : Lawful tuples
+    lawful : Lawful config tuples
     only : (q : ℕ) → Announcing tuples q → q ≡ process
     entries : (tuple : Tuple) → List·Memᴰ tuple tuples → isListTuple tuple ≡ true → (listedProcess tuple ≡ helper) × (serialOf tuple ≡ positionOf tuple)
 
@@ -95,7 +96,7 @@ module _ (config : Config) (safe : sound config ≡ true) (five : config .policy
   state-none =
       record {
         shared = shared-none config;
-        lawful = none-lawful;
+        lawful = none-lawful config;
         only = λ q a. absurd (List·Memᴰ·not-nil (a .stands));
         entries = λ tuple m. absurd (List·Memᴰ·not-nil m);
       }
@@ -344,9 +345,9 @@ only-alone config safe five one =
     λ i. record { n = one i; t = none i; policy = five i; k = plain i }
 
 alone-run : AloneRun alone
-unfolding alone lastOf turnsFrom applied judged firstRefusal verdict verdictOn shared mayList isListCall hasShape isNew begins follows preferred owed isDue mayAnnounce
+unfolding alone lastOf turnsFrom applied searched firstRefusal verdictOn shared mayList isListCall hasShape isNew begins follows preferred owed isDue mayAnnounce
     isAnnouncement announces announcedOf isListed isFilled isThere lists
-    hasProposals hasList plainSound sound known bounded placeSound placesFrom wellFormed freshOf carriedOut effect
+    hasProposals hasList plainSound sound known bounded placeSound placesFrom tableSound belongs entered tableFrom emptyTable fitsTable tabledFrom sameFrom wellFormed freshOf carriedOut effect
     callFault usedFault usesTemplate usesEntry partFault tupleFault fieldsFault fieldFault knownHead largestOf restBlank restFrom placeBlank isBlank isEntry
     fieldMatches fieldsMatch matches oldestFrom oldestOf
 alone-run = record { announces = refl; denied = refl; lists = refl }

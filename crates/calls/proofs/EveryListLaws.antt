@@ -70,7 +70,7 @@ entries-picked at (pick ∷ picks) (suc i) h = entries-picked (at + 1) picks i (
 -- a list in order whose serials are its positions, and nothing beside it
 record Numbered (config : Config) (tuples : List Tuple) : Type 0 where
   shared : Shared config tuples
-  lawful : Lawful tuples
+  lawful : Lawful config tuples
   only : (tuple : Tuple) → List·Memᴰ tuple tuples → isListTuple tuple ≡ true
   serials : (i : ℕ) → i < length tuples → serialOf (getD tuples i blankTuple) ≡ i + 1
 
@@ -235,7 +235,7 @@ module _ (config : Config) (safe : sound config ≡ true) (shares : hasList conf
 pub every-list : EveryList
 unfolding turns turnOf
 every-list config picks safe shares short able =
-    let start : Numbered config [] = record { shared = shared-none config; lawful = none-lawful; only = λ tuple m. absurd (List·Memᴰ·not-nil m); serials = λ i h. absurd (omega arith) } in
+    let start : Numbered config [] = record { shared = shared-none config; lawful = none-lawful config; only = λ tuple m. absurd (List·Memᴰ·not-nil m); serials = λ i h. absurd (omega arith) } in
     let fresh = fresh-space config safe in
     let list = filled config safe shares picks [] start able (omega arith) in
     let tuples = entries 1 picks in

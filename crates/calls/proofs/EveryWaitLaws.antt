@@ -51,7 +51,7 @@ module _ (config : Config) (safe : sound config ≡ true) (five : config .policy
   -- only the process has announced something, and each entry has serial 0 or its position as its serial
   record State (tuples : List Tuple) : Type 0 where
     shared : Shared config tuples
-    lawful : Lawful tuples
+    lawful : Lawful config tuples
     stands : List·Memᴰ waiting tuples
     only : (q : ℕ) → Announcing tuples q → q ≡ process
     entries : (tuple : Tuple) → List·Memᴰ tuple tuples → isListTuple tuple ≡ true → (serialOf tuple ≡ 0) ⊎ (serialOf tuple ≡ positionOf tuple)
@@ -164,14 +164,14 @@ module _ (config : Config) (safe : sound config ≡ true) (five : config .policy
 
   announced : applied (spaceOf config []) (announceOut process 0 1)
       ≡ record { reply = record { outcome = Done; tuple = blankTuple }; space = spaceOf config (waiting ∷ []) }
-  announced = announce-applied config safe five [] (shared-none config) none-lawful process 0 1 some few (omega arith) (λ z. omega arith) (omega arith) (λ a. List·Memᴰ·not-nil (a .stands))
+  announced = announce-applied config safe five [] (shared-none config) (none-lawful config) process 0 1 some few (omega arith) (λ z. omega arith) (omega arith) (λ a. List·Memᴰ·not-nil (a .stands))
 
   start : State (waiting ∷ [])
   start =
       let left = ap (λ (a : Applied). a .space) announced in
       record {
-        shared = appended-shared config safe shares [] (shared-none config) none-lawful (announceOut process 0 1) left;
-        lawful = appended-lawful config safe shares [] (shared-none config) none-lawful (announceOut process 0 1) left;
+        shared = appended-shared config safe shares [] (shared-none config) (none-lawful config) (announceOut process 0 1) left;
+        lawful = appended-lawful config safe shares [] (shared-none config) (none-lawful config) (announceOut process 0 1) left;
         stands = List·Memᴰ·head refl;
         only = λ q a. sym (a .by) ∙ ap announcerOf (List·Memᴰ·eq-of-singleton (a .stands));
         entries = λ tuple m shape. absurd (false≢true (sym (announcement-other waiting waiting-shape) ∙ ap isListTuple (sym (List·Memᴰ·eq-of-singleton m)) ∙ shape));

@@ -26,6 +26,7 @@ use Rattle.calls.proofs.Effects.Puts.{proposes, decided}
 use Rattle.calls.proofs.Keys.{key}
 use Rattle.calls.proofs.RunSteps.{fresh-space}
 use Rattle.calls.proofs.SumLaws.{after-append}
+use Rattle.calls.proofs.TabledSteps.{decision-alone}
 use Rattle.tuple.specs.declared.field.Tuple.{Tuple}
 use Rattle.tuple.specs.declared.field.Call.{Call}
 use Rattle.tuple.specs.declared.reply.Outcome.{Outcome}
@@ -49,9 +50,6 @@ module _ (config : Config) (safe : sound config ≡ true) (rests : hasProposals 
   strong : eqb (config .policy) 1 ≡ false
   strong = ne-eqb (config .policy) 1 (λ one. omega (arith, proposals-some config rests))
 
-  decision-alone : (tuple : Tuple) → isDecision tuple ≡ true → isProposal tuple ≡ false
-  decision-alone tuple h = no-proposal config tuple (rw strong h)
-
   told-entry : {before rest : List Call} {tuples : List Tuple} {call : Call} {how : Outcome} → Reached config all before (call ∷ rest) tuples
       → Puts config tuples call how → applied (spaceOf config tuples) call .reply .outcome ≡ how → Told config all (call .entry)
   unfolding turnsFrom
@@ -64,7 +62,7 @@ module _ (config : Config) (safe : sound config ≡ true) (rests : hasProposals 
       own = sym (o .own);
       done = answers;
     },
-    λ d. let shape = o .entry .shape in let none = decision-alone (call .entry) d in let z : _≡_ {A = ℕ} 0 1 = cc in absurd (omega arith),
+    λ d. let shape = o .entry .shape in let none = decision-alone config rests (call .entry) d in let z : _≡_ {A = ℕ} 0 1 = cc in absurd (omega arith),
   )
   told-entry {before} {rest} {tuples} {call} reached (decided c) answers = (
     λ p. let none = no-proposal config (call .entry) (c .entry .shape) in let z : _≡_ {A = ℕ} 0 1 = cc in absurd (omega arith),
@@ -118,7 +116,7 @@ module _ (config : Config) (safe : sound config ≡ true) (rests : hasProposals 
 
   same-decision : (t u : Tuple) → isDecision t ≡ true → isDecision u ≡ true → roundOf t ≡ roundOf u → key t ≡ key u
   unfolding key
-  same-decision t u p q r = rw (decision-alone t p, decision-alone u q, r)
+  same-decision t u p q r = rw (decision-alone config rests t p, decision-alone config rests u q, r)
 
 pub same-proposal : (t u : Tuple) → isProposal t ≡ true → isProposal u ≡ true → roundOf t ≡ roundOf u → processOf t ≡ processOf u → key t ≡ key u
 unfolding key

@@ -11,6 +11,7 @@ pub mod EveryListLaws
 pub mod EveryWaitLaws
 pub mod HandedLaws
 pub mod HelpingLaws
+pub mod FoundLaws
 pub mod JustifiedLaws
 pub mod Keys
 pub mod ListSteps
@@ -22,6 +23,7 @@ pub mod ReadingLaws
 pub mod RefusedLaws
 pub mod RunSteps
 pub mod SumLaws
+pub mod TabledSteps
 pub mod UncheckedLaws
 pub mod Walks
 pub mod WeakLaws

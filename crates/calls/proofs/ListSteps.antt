@@ -329,7 +329,7 @@ module _ (config : Config) (lists : hasList config ≡ true) (tuples : List Tupl
   stepped (Steps.obeys formed fault known p) =
       let same : held (spaceOf config tuples) ≡ tuples = held-of config tuples in
       let moved = moves tuples call fault in
-      rw same (obeyed known (rw same at p) moved refl (moves-carried config (formed-few (spaceOf config tuples) formed) moved))
+      rw same (obeyed known (rw same at p) moved refl (moves-carried config (formed-few (spaceOf config tuples) formed) (rw same at p) moved))
 
 -- what becomes of the list
 pub data Grown (config : Config) (tuples : List Tuple) (call : Call) (next : List Tuple) : Type 0 where

@@ -77,7 +77,7 @@ shared-whole {tuples = tuples} is-four shared = all-listed tuples (λ tuple m. k
 pub record Left (config : Config) (calls : List Call) : Type 0 where
   pub tuples : List Tuple
   pub shared : Shared config tuples
-  pub lawful : Lawful tuples
+  pub lawful : Lawful config tuples
   pub space : last config calls ≡ spaceOf config tuples
   pub holds : held (last config calls) ≡ tuples
   pub lists : listAfter config calls ≡ listOf tuples
@@ -104,7 +104,7 @@ module _ (config : Config) (safe : sound config ≡ true) (shares : hasList conf
       record {
         tuples = run .0;
         shared = run .1;
-        lawful = subst Lawful (sym (held-run early) ∙ holds) (early .lawful);
+        lawful = subst (Lawful config) (sym (held-run early) ∙ holds) (early .lawful);
         space = space;
         holds = holds;
         lists = ap listOf holds;
@@ -264,7 +264,7 @@ five-other position tuple shape =
     (λ e. e)
 
 -- a cas of 1 to n on such tuples, of a shift, at a position that is filled or the next
-module _ (config : Config) (safe : sound config ≡ true) (shares : hasList config ≡ true) (tuples : List Tuple) (keeps : Shared config tuples) (lawful : Lawful tuples)
+module _ (config : Config) (safe : sound config ≡ true) (shares : hasList config ≡ true) (tuples : List Tuple) (keeps : Shared config tuples) (lawful : Lawful config tuples)
     (caller position process serial code : ℕ) (first : 1 ≤ position) (near : position ≤ length (listOf tuples) + 1) (short : position ≤ positions)
     (one : 1 ≤ caller) (most : caller ≤ config .n) (low : process ≤ largestCount) (small : serial ≤ largestCount) (some : code ≡ bottom → ⊥) (inside : code ≤ largestCode) where
   abbrev call : Call
@@ -434,7 +434,7 @@ unfolding callFault usedFault usesTemplate usesEntry partFault tupleFault fields
 announce-faultless process serial code p s c = rw (le-leb process largestCount p, le-leb serial largestCount s, le-leb code largestCode c)
 
 -- an announcement that is permitted stands behind the others
-pub announce-applied : (config : Config) → sound config ≡ true → config .policy ≡ 5 → (tuples : List Tuple) → Shared config tuples → Lawful tuples → (process serial code : ℕ)
+pub announce-applied : (config : Config) → sound config ≡ true → config .policy ≡ 5 → (tuples : List Tuple) → Shared config tuples → Lawful config tuples → (process serial code : ℕ)
     → 1 ≤ process → process ≤ config .n → serial ≤ largestCount → (code ≡ bottom → ⊥) → code ≤ largestCode → (Announcing tuples process → ⊥)
     → applied (spaceOf config tuples) (announceOut process serial code)
     ≡ record { reply = record { outcome = Done; tuple = blankTuple }; space = spaceOf config (tuples ++ (announcement process serial code ∷ [])) }
@@ -456,7 +456,7 @@ next-announced config calls process serial code safe five one most small some in
 
 -- ---- what a call that is known to append leaves
 
-module _ (config : Config) (safe : sound config ≡ true) (shares : hasList config ≡ true) (tuples : List Tuple) (keeps : Shared config tuples) (lawful : Lawful tuples) (call : Call)
+module _ (config : Config) (safe : sound config ≡ true) (shares : hasList config ≡ true) (tuples : List Tuple) (keeps : Shared config tuples) (lawful : Lawful config tuples) (call : Call)
     (appends : applied (spaceOf config tuples) call .space ≡ spaceOf config (tuples ++ (call .entry ∷ []))) where
   abbrev more : List Tuple
   more = tuples ++ (call .entry ∷ [])
@@ -466,10 +466,10 @@ module _ (config : Config) (safe : sound config ≡ true) (shares : hasList conf
       let step = list-keeps config safe shares tuples keeps call in
       subst (Shared config) (sym (held-of config (step .next)) ∙ ap held (sym (step .space) ∙ appends) ∙ held-of config more) (step .kept)
 
-  pub appended-lawful : Lawful more
+  pub appended-lawful : Lawful config more
   appended-lawful =
       let run = next {call = call} (record { tuples = tuples; lawful = lawful; same = refl }) .run in
-      subst Lawful (sym (held-of config (run .tuples)) ∙ ap held (sym (run .same) ∙ appends) ∙ held-of config more) (run .lawful)
+      subst (Lawful config) (sym (held-of config (run .tuples)) ∙ ap held (sym (run .same) ∙ appends) ∙ held-of config more) (run .lawful)
 
 -- an announcement that stands is its process's oldest, as there is no other
 pub oldest-one : {config : Config} {tuples : List Tuple} → Shared config tuples → (tuple : Tuple) → List·Memᴰ tuple tuples → isAnnouncement tuple ≡ true

@@ -15,6 +15,7 @@ use Rattle.calls.specs.Laws.{Obeyed, Answers, ObeyedRules, WithoutRules}
 use Rattle.calls.specs.Turns.{carriedBy, applied}
 use Rattle.calls.proofs.CallLaws.{permitted-applied}
 use Rattle.calls.proofs.ChangeLaws.{carried-rules}
+use Rattle.calls.proofs.TabledSteps.{taken-bare}
 use Rattle.space.specs.declared.space.Space.{Space}
 use Rattle.space.specs.Spaces.{held, spaceOf}
 use Rattle.space.proofs.SpaceRules.{held-lawful}
@@ -48,7 +49,7 @@ obeyed-rules space call obeyed =
       rdp-found = λ code i at. answers space call _ _ Keep _ (does ∙ rw (code, at) refl) refl;
       rdp-none = λ code none. answers space call _ _ Keep _ (does ∙ rw (code, none) refl) refl;
       inp-found = λ code i at. answers space call _ _ (Remove i) _ (does ∙ rw (code, at) refl)
-          (carried .remove i (oldest-rule .at tuples (call .template) i .0 at .0) (held-lawful space (obeyed .formed) .few));
+          (carried .remove i (oldest-rule .at tuples (call .template) i .0 at .0) (held-lawful space (obeyed .formed) .few) (taken-bare (space .config) tuples call (obeyed .permitted) code));
       inp-none = λ code none. answers space call _ _ Keep _ (does ∙ rw (code, none) refl) refl;
       cas-held = λ code i at. answers space call _ _ Keep _ (does ∙ rw (code, at) refl) refl;
       cas-inserted = λ code none room. answers space call _ _ Append _ (does ∙ rw (code, none, lt-ltb (length tuples) capacity room) refl) (carried .append room);

@@ -13,9 +13,9 @@ use Rattle.calls.specs.declared.turn.Applied.{Applied}
 use Rattle.calls.specs.Effects.{effect}
 use Rattle.calls.specs.Laws.{Denied, Obeyed, RefusedBy, RefusedRule, RefusedReply}
 use Rattle.calls.specs.Laws.RefusedBy.{unformed, faulty, stranger, denied, full}
-use Rattle.calls.specs.Turns.{behindFault, firstRefusal, judgedBy, judged, carriedBy, applied}
+use Rattle.calls.specs.Turns.{behindFault, firstRefusal, judgedBy, searched, carriedBy, applied}
 use Rattle.calls.proofs.CallLaws.{permitted-applied}
-use Rattle.calls.proofs.CallSteps.{Puts, Moves, moves, formed-bounded}
+use Rattle.calls.proofs.CallSteps.{Puts, Moves, moves}
 use Rattle.policy.specs.declared.verdicts.Verdict.the-variants.{Permit}
 use Rattle.policy.specs.Policies.{verdictOn, verdict}
 use Rattle.policy.specs.Verdicts.{demand}
@@ -56,14 +56,13 @@ module _ (space : Space) (call : Call) (why : Refusal) where
 
   module _ (formed : wellFormed space ≡ true) where
     verdict-refused : callFault call ≡ Absent → known (space .config) (call .process) ≡ true
-        → judgedBy (held space) call (verdict space call) .reply .outcome ≡ Refused why → RefusedBy space call why
-    unfolding known verdict
+        → judgedBy (held space) call (verdictOn (space .config) (held space) call) .reply .outcome ≡ Refused why → RefusedBy space call why
+    unfolding known
     verdict-refused sound k h =
-        let bound = formed-bounded space formed in
         let member = between 1 (call .process) (space .config .n) k in
         elim (verdict-rule (space .config) (held space) call) [
-          | inl p ↦ moves-refused (record { formed = formed; sound = sound; known = member; permitted = p }) (moves (held space) call sound) (rw (bound, p) at h)
-          | inr d ↦ same (d .0) (denied (d .0) (record { cause = d .1; formed = formed; sound = sound; known = member; forbidden = d .2 })) (rw (bound, d .2) at h)
+          | inl p ↦ moves-refused (record { formed = formed; sound = sound; known = member; permitted = p }) (moves (held space) call sound) (rw p at h)
+          | inr d ↦ same (d .0) (denied (d .0) (record { cause = d .1; formed = formed; sound = sound; known = member; forbidden = d .2 })) (rw (d .2) at h)
         ]
 
     stranger-refused : callFault call ≡ Absent → known (space .config) (call .process) ≡ false → RefusedBy space call (refusal 6)
@@ -72,7 +71,7 @@ module _ (space : Space) (call : Call) (why : Refusal) where
         stranger formed sound (λ member. false≢true (sym k ∙ rw (le-leb 1 (call .process) (member .0), le-leb (call .process) (space .config .n) (member .1)) refl))
 
     fault-refused : (fault : Fault) → callFault call ≡ fault
-        → judgedBy (held space) call (behindFault fault (demand (known (space .config) (call .process)) (refusal 6) (verdict space call))) .reply .outcome ≡ Refused why
+        → judgedBy (held space) call (behindFault fault (demand (known (space .config) (call .process)) (refusal 6) (verdictOn (space .config) (held space) call))) .reply .outcome ≡ Refused why
         → RefusedBy space call why
     fault-refused Absent e h =
         cases (known (space .config) (call .process))
@@ -81,23 +80,23 @@ module _ (space : Space) (call : Call) (why : Refusal) where
     fault-refused (Present what) e h = same what (faulty what formed e) h
 
   refused-by : applied space call .reply .outcome ≡ Refused why → RefusedBy space call why
-  unfolding applied judged firstRefusal
+  unfolding applied searched firstRefusal
   refused-by h =
       cases (wellFormed space)
-      (λ e. fault-refused e (callFault call) refl (rw (e, formed-bounded space e) at h))
+      (λ e. fault-refused e (callFault call) refl (rw e at h))
       (λ e. same (refusal 1) (unformed e) (rw e at h))
 
 pub refused-reply : RefusedReply
-unfolding applied judged firstRefusal verdict known effect
+unfolding applied searched firstRefusal known effect
 refused-reply space call why (unformed e) = rw e
-refused-reply space call why (faulty what formed e) = rw (formed, formed-bounded space formed, e)
+refused-reply space call why (faulty what formed e) = rw (formed, e)
 refused-reply space call why (stranger formed sound strange) =
-    rw (formed, formed-bounded space formed, sound)
+    rw (formed, sound)
     (cases (known (space .config) (call .process))
     (λ k. absurd (strange (between 1 (call .process) (space .config .n) k)))
     (λ k. rw k))
 refused-reply space call why (denied what d) =
-    rw (d .formed, formed-bounded space (d .formed), d .sound, le-leb 1 (call .process) (d .known .0), le-leb (call .process) (space .config .n) (d .known .1), d .forbidden)
+    rw (d .formed, d .sound, le-leb 1 (call .process) (d .known .0), le-leb (call .process) (space .config .n) (d .known .1), d .forbidden)
 refused-reply space call why (full o many (inl e)) =
     ap (λ (a : Applied). a .reply) (permitted-applied space call (o .formed) (o .sound) (o .known) (o .permitted))
     ∙ rw (e, le-ltb (length (held space)) capacity many) refl

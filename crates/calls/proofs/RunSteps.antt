@@ -17,6 +17,7 @@ use Rattle.space.specs.declared.config.Config.{Config}
 use Rattle.space.specs.declared.space.Space.{Space}
 use Rattle.space.specs.Configs.{sound}
 use Rattle.space.specs.Spaces.{held, spaceOf, wellFormed, freshOf, Tidy}
+use Rattle.space.specs.Tables.{tabledFrom}
 use Rattle.space.proofs.SpaceRules.{Lawful, held-of, formed-of}
 use Rattle.tuple.specs.declared.fault.Fault.the-variants.{Absent}
 use Rattle.tuple.specs.declared.field.Tuple.{Tuple}
@@ -38,7 +39,7 @@ pub data Goes (config : Config) (tuples : List Tuple) (call : Call) : Outcome �
 -- a space of the configuration, and the lawful tuples that it holds
 pub record Run (config : Config) (space : Space) : Type 0 where
   pub tuples : List Tuple
-  pub lawful : Lawful tuples
+  pub lawful : Lawful config tuples
   pub same : space ≡ spaceOf config tuples
 
 pub record Next (config : Config) (tuples : List Tuple) (call : Call) (next : Applied) : Type 0 where
@@ -46,7 +47,7 @@ pub record Next (config : Config) (tuples : List Tuple) (call : Call) (next : Ap
   pub goes : Goes config tuples call (next .reply .outcome) (run .tuples)
 
 module _ {config : Config} {call : Call} where
-  next-steps : {tuples : List Tuple} {next : Applied} → Lawful tuples → Steps (spaceOf config tuples) call next → Next config tuples call next
+  next-steps : {tuples : List Tuple} {next : Applied} → Lawful config tuples → Steps (spaceOf config tuples) call next → Next config tuples call next
   unfolding carriedOut
   next-steps {tuples} lawful (Steps.refuses why low) =
       record { run = record { tuples = tuples; lawful = lawful; same = refl }; goes = Goes.stays why (λ full. omega arith) }
@@ -58,8 +59,8 @@ module _ {config : Config} {call : Call} where
       rw same (record {
         run = record {
           tuples = changed tuples (call .entry) (effect tuples call .change);
-          lawful = moves-lawful faultless lawful moved;
-          same = moves-carried config (lawful .few) moved;
+          lawful = moves-lawful faultless lawful (rw same at p) moved;
+          same = moves-carried config (lawful .few) (rw same at p) moved;
         };
         goes = Goes.goes faultless (rw same at p) moved;
       })
@@ -83,11 +84,12 @@ pub fresh-space : (config : Config) → sound config ≡ true → freshOf config
 unfolding freshOf
 fresh-space config s = rw s
 
-pub none-lawful : Lawful []
-none-lawful = record { few = omega arith; entries = λ tuple m. absurd (List·Memᴰ·not-nil m) }
+pub none-lawful : (config : Config) → Lawful config []
+unfolding tabledFrom
+none-lawful config = record { few = omega arith; entries = λ tuple m. absurd (List·Memᴰ·not-nil m); table = refl }
 
 unfoldable pub fresh-run : (config : Config) → sound config ≡ true → Run config (freshOf config .space)
-fresh-run config s = record { tuples = []; lawful = none-lawful; same = fresh-space config s }
+fresh-run config s = record { tuples = []; lawful = none-lawful config; same = fresh-space config s }
 
 pub after-run : {config : Config} {space : Space} (calls : List Call) → Run config space → Run config (after space calls)
 unfolding lastOf turnsFrom

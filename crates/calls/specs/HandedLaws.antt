@@ -3,14 +3,16 @@ use mathlib.Core.Path.{_≡_}
 use Prim.Native.Nat.{ℕ}
 use mathlib.Core.List.{List, [], _∷_, map}
 use Rattle.calls.specs.Lists.{listFor, listCas, announceOut}
+use Rattle.calls.specs.Turns.{applied}
 use Rattle.policy.specs.declared.verdicts.Verdict.{Verdict}
 use Rattle.policy.specs.declared.verdicts.Verdict.the-variants.{Permit, Refuse}
 use Rattle.policy.specs.Policies.{verdictOn}
 use Rattle.space.specs.declared.config.Config.{Config}
+use Rattle.space.specs.Spaces.{spaceOf}
 use Rattle.tuple.specs.declared.field.Tuple.{Tuple}
 use Rattle.tuple.specs.declared.field.Call.{Call}
-use Rattle.tuple.specs.Fields.{blankTuple}
-use Rattle.tuple.specs.Forms.{proposal, decisionEntry, decisionTemplate, listTuple, announcement}
+use Rattle.tuple.specs.declared.reply.Outcome.the-variants.{Refused}
+use Rattle.tuple.specs.Forms.{proposal, listTuple, announcement}
 use Rattle.tuple.specs.Refusals.{refusal}
 
 -- the configuration of a policy, with its k
@@ -21,12 +23,9 @@ under policy k = record { n = 4; t = 1; policy = policy; k = k }
 abbrev pub saidOn : Config → List Tuple → List Call → List Verdict
 saidOn config tuples calls = map (verdictOn config tuples) calls
 
--- the out of a proposal in round 0, and process 4's cas of a decision there
-abbrev pub proposeOut : ℕ → ℕ → Call
-proposeOut process code = record { process = process; code = 1; template = blankTuple; entry = proposal 0 process code }
-
-abbrev pub decideCas : ℕ → ℕ → Call
-decideCas code set = record { process = 4; code = 4; template = decisionTemplate 0; entry = decisionEntry 0 code set }
+-- a call is refused 1 where these tuples stand
+abbrev pub refusedAll : Config → List Tuple → Call → Type 0
+refusedAll config tuples call = applied (spaceOf config tuples) call .reply .outcome ≡ Refused (refusal 1)
 
 -- ---- policies 2 and 3
 
@@ -75,13 +74,9 @@ abbrev pub listedFirst : List Tuple
 listedFirst = listTuple 4 1 7 50 ∷ announcement 1 7 80 ∷ announcement 1 8 81 ∷ []
 
 pub record HandedRows : Type 0 where
-  -- a mark takes its place: 12; it is no proposal: 13 for a set with its process, of 40, and of the mark where no offset has more than t of the set; 2 and 3
-  -- bear 40
-  pub mark-stands : saidOn (under 2 0) marked (proposeOut 1 81 ∷ decideCas 81 3 ∷ decideCas 0 11 ∷ decideCas 81 6 ∷ [])
-      ≡ Refuse (refusal 12) ∷ Refuse (refusal 13) ∷ Refuse (refusal 13) ∷ Permit ∷ []
-  -- both take their places; neither bears 1; what is no choice is not decided: 7; 3 and 4 bear 1
-  pub other-stands : saidOn (under 3 2) unchosen (proposeOut 1 1 ∷ proposeOut 2 1 ∷ decideCas 11 3 ∷ decideCas 3 5 ∷ decideCas 3 6 ∷ decideCas 3 12 ∷ [])
-      ≡ Refuse (refusal 12) ∷ Refuse (refusal 12) ∷ Refuse (refusal 7) ∷ Refuse (refusal 13) ∷ Refuse (refusal 13) ∷ Permit ∷ []
+  -- where a mark, or what is no choice, is proposed the space is not well formed (2.9): every call is refused 1
+  pub mark-stands : (call : Call) → refusedAll (under 2 0) marked call
+  pub other-stands : (call : Call) → refusedAll (under 3 2) unchosen call
   pub outside-four : saidOn (under 4 0) outside outsideCalls ≡ outsideSaid
   pub outside-five : saidOn (under 5 0) outside outsideCalls ≡ outsideSaid
   -- the first may be listed, by another caller, and neither the second nor anything else; a third announcement is 7

@@ -13,6 +13,7 @@ use Rattle.policy.specs.Laws.{Denial}
 use Rattle.policy.specs.Policies.{verdictOn}
 use Rattle.space.specs.declared.config.Config.{Config}
 use Rattle.space.specs.declared.space.Space.{Space}
+use Rattle.space.specs.Configs.{hasProposals}
 use Rattle.space.specs.Spaces.{held, spaceOf, wellFormed, Tidy}
 use Rattle.tuple.specs.declared.fault.Fault.the-variants.{Absent, Present}
 use Rattle.tuple.specs.declared.field.Tuple.{Tuple}
@@ -30,7 +31,7 @@ use Rattle.tuple.specs.Refusals.{refusal}
 -- what becomes of the tuples, carried out: out and an inserted cas append the entry, inp takes a tuple off and the rest keeps its order
 pub record CarriedRule (config : Config) (tuples : List Tuple) (entry : Tuple) : Type 0 where
   pub append : length tuples < 256 → carriedOut (spaceOf config tuples) entry Append ≡ spaceOf config (tuples ++ (entry ∷ []))
-  pub remove : (i : ℕ) → i < length tuples → length tuples ≤ 256 → carriedOut (spaceOf config tuples) entry (Remove i) ≡ spaceOf config (without i tuples)
+  pub remove : (i : ℕ) → i < length tuples → length tuples ≤ 256 → hasProposals config ≡ false → carriedOut (spaceOf config tuples) entry (Remove i) ≡ spaceOf config (without i tuples)
 
 abbrev pub CarriedRules : Type 0
 CarriedRules = (config : Config) (tuples : List Tuple) (entry : Tuple) → CarriedRule config tuples entry

@@ -16,6 +16,7 @@ use Rattle.space.specs.declared.space.Space.{Space}
 use Rattle.space.specs.Configs.{sound, hasProposals}
 use Rattle.space.specs.Shapes.{roundOf, isProposal, processOf}
 use Rattle.space.specs.Spaces.{held, spaceOf, freshOf, Entries}
+use Rattle.space.specs.Tables.{tableOf, tabled}
 use Rattle.tuple.specs.declared.field.Tuple.{Tuple}
 use Rattle.tuple.specs.declared.field.Call.{Call}
 use Rattle.tuple.specs.declared.reply.Outcome.{Outcome}
@@ -27,12 +28,13 @@ use Rattle.tuple.specs.Refusals.{refusal}
 abbrev pub Unchecked : Type 0
 Unchecked = (config : Config) (calls : List Call) → uncheckedFrom (freshOf config .space) calls ≡ turns config calls
 
--- what is judged without that test, on any space. Out of bounds it is 1. Within them, with 256 places and entries at those below the count, a call does what
--- `applied` does on the space of these tuples, whatever stands behind them
+-- what is judged without that test, on any space. Out of bounds it is 1. Within them, with 256 places, entries at those below the count, and the table of
+-- these, a call does what `applied` does on the space of these tuples, whatever stands behind them
 pub record JudgedRule (space : Space) (call : Call) : Type 0 where
   pub unsound : sound (space .config) ≡ false → judged space call ≡ refuses (refusal 1)
   pub above : 256 < space .count → judged space call ≡ refuses (refusal 1)
   pub within : sound (space .config) ≡ true → space .count ≤ 256 → length (space .tuples) ≡ 256 → Entries (held space)
+      → tabled (space .config) (held space) ≡ true → space .table ≡ tableOf (space .config) (held space)
       → carriedBy (spaceOf (space .config) (held space)) call (judged space call) ≡ applied (spaceOf (space .config) (held space)) call
 
 abbrev pub JudgedRules : Type 0

@@ -7,7 +7,7 @@ use Rattle.calls.specs.Changes.{carriedOut}
 use Rattle.calls.specs.Effects.{refuses, effect}
 use Rattle.policy.specs.declared.verdicts.Verdict.{Verdict}
 use Rattle.policy.specs.declared.verdicts.Verdict.the-variants.{Permit, Refuse}
-use Rattle.policy.specs.Policies.{verdict}
+use Rattle.policy.specs.Policies.{verdictOn, verdict}
 use Rattle.policy.specs.Verdicts.{demand}
 use Rattle.space.specs.declared.config.Config.{Config}
 use Rattle.space.specs.declared.space.Space.{Space}
@@ -29,17 +29,21 @@ behindFault Absent next = next
 behindFault (Present why) next = Refuse why
 
 -- the call's fault, 3 to 5, then 6 for process 0 or one above n, then the policy's verdict
-unfoldable pub firstRefusal : Space → Call → Verdict
-firstRefusal space call = behindFault (callFault call) (demand (known (space .config) (call .process)) (refusal 6) (verdict space call))
+unfoldable pub firstRefusal : Config → Call → Verdict → Verdict
+firstRefusal config call verdict = behindFault (callFault call) (demand (known config (call .process)) (refusal 6) verdict)
 
 -- what is refused changes nothing; a permitted call does what it does to the tuples held, where it may be refused 8
 abbrev pub judgedBy : List Tuple → Call → Verdict → Effect
 judgedBy tuples call Permit = effect tuples call
 judgedBy tuples call (Refuse why) = refuses why
 
--- the reply, and what becomes of the tuples. Of the space only the configuration and the count are tested: out of bounds they are refused 1
+-- the reply, and what becomes of the tuples, by a search of the tuples held
+unfoldable pub searched : Space → Call → Effect
+searched space call = judgedBy (held space) call (firstRefusal (space .config) call (verdictOn (space .config) (held space) call))
+
+-- the same with the policy asked by the table (02, 2.9). Of the space only the configuration and the count are tested: out of bounds they are refused 1
 unfoldable pub judged : Space → Call → Effect
-judged space call = judgedBy (held space) call (demand (bounded space) (refusal 1) (firstRefusal space call))
+judged space call = judgedBy (held space) call (demand (bounded space) (refusal 1) (firstRefusal (space .config) call (verdict space call)))
 
 -- the reply, and the space with what becomes of its tuples carried out
 abbrev pub carriedBy : Space → Call → Effect → Applied
@@ -47,7 +51,7 @@ carriedBy space call does = record { reply = does .reply; space = carriedOut spa
 
 -- first of all, a space that is not well formed is refused 1
 unfoldable pub applied : Space → Call → Applied
-applied space call = carriedBy space call (cond (wellFormed space) (judged space call) (refuses (refusal 1)))
+applied space call = carriedBy space call (cond (wellFormed space) (searched space call) (refuses (refusal 1)))
 
 -- ---- lists of calls
 

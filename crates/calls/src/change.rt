@@ -5,6 +5,7 @@ ghost use lib.Dec.{leb, ltb};
 ghost use Rattle.calls.specs.Changes.{carriedOut};
 ghost use Rattle.tuple.specs.Bounds.{capacity};
 use space::Space;
+use space::enter;
 use tuple::TUPLES;
 use tuple::Tuple;
 
@@ -30,6 +31,7 @@ pub fn carry_out_unchecked(space: Space, entry: Tuple, change: Change) -> Space
             if count < TUPLES {
                 next.tuples[count] = entry;
                 next.count = count + 1;
+                enter(next.config, &mut next.table, entry);
             }
         }
         Change::Remove(at) => {

@@ -1,13 +1,15 @@
 // A call on a space: the refusals in their order, then what the call does.
 ghost use mathlib.Core.Path.{_≡_};
 ghost use Rattle.calls.specs.Turns.{firstRefusal, judged, applied};
+ghost use Rattle.policy.specs.Policies.{verdict};
 use crate::change::Change;
 use crate::change::carry_out_unchecked;
 use crate::effect::Effect;
 use crate::effect::perform;
 use crate::effect::refused;
 use policy::Verdict;
-use policy::verdict;
+use policy::list_verdict;
+use policy::table_verdict;
 use space::Space;
 use space::is_bounded;
 use tuple::Call;
@@ -41,8 +43,8 @@ pub fn apply(space: Space, call: Call) -> Applied
     Applied { reply, space: next }
 }
 
-// What a call on a space is answered, and what becomes of the tuples. Of the space the configuration and the count are tested, and not its places: who may
-// hand in what, and what is promised of it, is in docs/DECISIONS.md, "Functions that leave a test out".
+// What a call on a space is answered, and what becomes of the tuples, by its table. Of the space the configuration and the count are tested, and not its places
+// or its table: who may hand in what, and what is promised of it, is in docs/DECISIONS.md, "Functions that leave a test out".
 pub fn judge_unchecked(space: Space, call: Call) -> Effect
     ensures { λ r. ⌜ r ≡ judged space call ⌝ }
 {
@@ -58,7 +60,7 @@ pub fn judge_unchecked(space: Space, call: Call) -> Effect
 
 // The first refusal that a call meets, of 3 to 7, 12 and 13.
 fn first_refusal(space: Space, call: Call) -> Verdict
-    ensures { λ r. ⌜ r ≡ firstRefusal space call ⌝ }
+    ensures { λ r. ⌜ r ≡ firstRefusal (space .config) call (verdict space call) ⌝ }
 {
     let config = space.config;
     if let Fault::Present(refusal) = call.fault() {
@@ -67,5 +69,8 @@ fn first_refusal(space: Space, call: Call) -> Verdict
     if !config.knows(call.process as u64) {
         return Verdict::Refuse(Refusal::Stranger);
     }
-    verdict(space, call)
+    if config.has_list() {
+        return list_verdict(space, call);
+    }
+    table_verdict(config, &space.table, call)
 }

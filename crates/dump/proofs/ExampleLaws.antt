@@ -8,11 +8,11 @@ use Rattle.dump.specs.Appending as appending
 use Rattle.dump.proofs.ByteLaws.{small, small-bytes}
 use Rattle.calls.specs.Changes.{carriedOut}
 use Rattle.calls.specs.Effects.{effect}
-use Rattle.calls.specs.Turns.{firstRefusal, judged, applied, turnsFrom, turns, lastOf}
+use Rattle.calls.specs.Turns.{firstRefusal, searched, applied, turnsFrom, turns, lastOf}
 use Rattle.policy.specs.Default.{bearsBottom}
 use Rattle.policy.specs.Justified.{isOwnProposal, isFree, outVerdict, isDecisionCall, bearsOffset, bears, casVerdict, justified}
 use Rattle.policy.specs.Listing.{isListCall, isNew, begins, follows, owed, isDue, mayList, mayAnnounce, shared}
-use Rattle.policy.specs.Policies.{verdictOn, verdict}
+use Rattle.policy.specs.Policies.{verdictOn}
 use Rattle.policy.specs.Weak.{isWeakCall, weak}
 use Rattle.record.specs.Writing.{fieldBytes, fieldsBytes, tupleBytes, partBytes, callBytes}
 use Rattle.record.specs.Heads.{headOf}
@@ -22,7 +22,8 @@ use Rattle.space.specs.Configs.{choiceSound, plainSound, sound, hasProposals, h
 use Rattle.space.specs.Lists.{lists, isThere, isFilled, isListed}
 use Rattle.space.specs.Members.{beyond, within, every}
 use Rattle.space.specs.Proposals.{isChoice, offered, decidable, proposes, proposed, everyProposed}
-use Rattle.space.specs.Spaces.{spaceOf, placeSound, placesFrom, bounded, wellFormed, freshOf}
+use Rattle.space.specs.Spaces.{spaceOf, placeSound, placesFrom, tableSound, bounded, wellFormed, freshOf}
+use Rattle.space.specs.Tables.{hasPlace, codeAt, belongs, entered, tableFrom, emptyTable, fitsTable, tabledFrom, sameFrom}
 use Rattle.tuple.specs.declared.fault.Fault.the-variants.{Absent, Present}
 use Rattle.tuple.specs.Faults.{knownHead, fieldFault, fieldsFault, tupleFault, partFault, usesTemplate, usesEntry, usedFault, isBlank, placeBlank, restFrom, restBlank, callFault, isEntry}
 use Rattle.tuple.specs.Fields.{largestOf}
@@ -45,10 +46,10 @@ listed-bytes = refl
 -- the two scripts, run
 ends : WorkedEnds × UnreadEnds
 unfolding ran ranOn configOf recordsAt recordsFrom readNumber numberAt numberFrom joined callAt bodyAt partsAt partAt tupleAt fieldsAt fieldAt valueAt headOf
-    carriedOut effect firstRefusal judged applied turnsFrom lastOf
-    isOwnProposal isFree outVerdict isDecisionCall bearsOffset bears casVerdict justified verdictOn verdict
+    carriedOut effect firstRefusal searched applied turnsFrom lastOf
+    isOwnProposal isFree outVerdict isDecisionCall bearsOffset bears casVerdict justified verdictOn
     plainSound sound hasProposals known beyond within every isChoice offered decidable proposes proposed everyProposed
-    placeSound placesFrom bounded wellFormed freshOf
+    placeSound placesFrom tableSound hasPlace codeAt belongs entered tableFrom emptyTable fitsTable tabledFrom sameFrom bounded wellFormed freshOf
     knownHead fieldFault fieldsFault tupleFault partFault usesTemplate usesEntry usedFault isBlank placeBlank restFrom restBlank callFault isEntry
     largestOf fieldMatches fieldsMatch matches oldestFrom oldestOf ones small hasShape
 ends = (
@@ -76,12 +77,12 @@ unread-ends = ends .1
 
 pub answers : Rows
 unfolding dumps.dumpBytes dumps.dumpCalls dumps.writtenOf dumps.isReached dumps.allAppended appending.callOf appending.ownProcess appending.templateOf
-    carriedOut effect firstRefusal judged applied turnsFrom turns
-    bearsBottom isOwnProposal isFree outVerdict isDecisionCall bearsOffset bears casVerdict justified isWeakCall weak verdictOn verdict
+    carriedOut effect firstRefusal searched applied turnsFrom turns
+    bearsBottom isOwnProposal isFree outVerdict isDecisionCall bearsOffset bears casVerdict justified isWeakCall weak verdictOn
     isListCall isNew begins follows owed isDue mayList mayAnnounce shared lists isThere isFilled isListed
     fieldBytes fieldsBytes tupleBytes partBytes callBytes setUpBytes recordsBytes
     choiceSound plainSound sound hasProposals hasList known beyond within every isChoice offered decidable proposes proposed everyProposed
-    placeSound placesFrom bounded wellFormed freshOf
+    placeSound placesFrom tableSound hasPlace codeAt belongs entered tableFrom emptyTable fitsTable tabledFrom sameFrom bounded wellFormed freshOf
     knownHead fieldFault fieldsFault tupleFault partFault usesTemplate usesEntry usedFault isBlank placeBlank restFrom restBlank callFault isEntry
     largestOf fieldMatches fieldsMatch matches oldestFrom oldestOf groupsOf bytesOf ones hasShape
 answers = refl

@@ -3,7 +3,7 @@ use mathlib.Core.Path.{_≡_, refl, ap, _∙_}
 use Prim.Native.Nat.{ℕ, zero, suc, _*_, _/_, _≤_, _<_}
 use native.Mathlib.Omega.{arith}
 use native.Mathlib.Nat.{mul-suc}
-use mathlib.Core.Bool.{true}
+use mathlib.Core.Bool.{true, false}
 use mathlib.Core.List.{List, [], _∷_, map, List·Memᴰ, List·Memᴰ·head, List·Memᴰ·tail}
 use lib.ListN.{length, replicate, length-append, length-map}
 use borrow.Table.Steps.{cases}
@@ -21,9 +21,10 @@ use Rattle.record.proofs.Length.{width-one}
 use Rattle.record.proofs.WrittenLaws.{tuple-length}
 use Rattle.script.specs.Scripts.{setUpBytes, recordsBytes}
 use Rattle.space.specs.declared.config.Config.{Config}
-use Rattle.space.specs.Configs.{sound}
+use Rattle.space.specs.Configs.{hasProposals, sound}
 use Rattle.space.specs.Spaces.{spaceOf}
 use Rattle.space.proofs.SpaceRules.{Lawful, held-of, formed-of}
+use Rattle.calls.proofs.TabledSteps.{tabled-bare}
 use Rattle.tuple.specs.declared.field.Tuple.{Tuple}
 use Rattle.tuple.specs.declared.field.Call.{Call}
 use Rattle.tuple.specs.Bounds.{places, capacity, largestCount}
@@ -110,10 +111,14 @@ records-length each (call ∷ calls) same =
     let later = records-length each calls (λ other m. same other (List·Memᴰ·tail m)) in
     omega (arith, length-append (callBytes call) (recordsBytes calls), mul-suc each (length calls))
 
+bare-other : (config : Config) → config .policy ≡ 0 → hasProposals config ≡ false
+unfolding hasProposals
+bare-other config bare = rw bare
+
 module _ (config : Config) (tuples : List Tuple) (safe : sound config ≡ true) (bare : config .policy ≡ 0) (all : length tuples ≡ capacity)
     (wide : (tuple : Tuple) → List·Memᴰ tuple tuples → (isEntry tuple ≡ true) × (length (tuple .fields) ≡ places) × Wide tuple) where
-  lawful : Lawful tuples
-  lawful = record { few = omega arith; entries = λ tuple m. wide tuple m .0 }
+  lawful : Lawful config tuples
+  lawful = record { few = omega arith; entries = λ tuple m. wide tuple m .0; table = tabled-bare config tuples (bare-other config bare) }
 
   calls-length : (call : Call) → List·Memᴰ call (map (callOf config) tuples) → length (callBytes call) ≡ 39
   calls-length call m =

@@ -48,10 +48,10 @@ pub record Entered (config : Config) (tuples : List Tuple) (call : Call) (done :
   pub permitted : verdictOn config tuples call ≡ Permit
   pub enters : Enters tuples call (done .reply .outcome)
   pub room : length tuples < capacity
-  pub lawful : Lawful (tuples ++ (call .entry ∷ []))
+  pub lawful : Lawful config (tuples ++ (call .entry ∷ []))
   pub same : done .space ≡ spaceOf config (tuples ++ (call .entry ∷ []))
 
-module _ (config : Config) (tuples : List Tuple) (lawful : Lawful tuples) (call : Call) where
+module _ (config : Config) (tuples : List Tuple) (lawful : Lawful config tuples) (call : Call) where
   module _ (faultless : callFault call ≡ Absent) (member : (1 ≤ call .process) × (call .process ≤ config .n)) (permitted : verdictOn config tuples call ≡ Permit) where
     by-moves : {how : Outcome} {change : Change} {done : Applied} → Moves tuples call how change → done .reply .outcome ≡ how
         → done .space ≡ spaceOf config (changed tuples (call .entry) change) → isAppended (done .reply .outcome) ≡ true → Entered config tuples call done
@@ -62,7 +62,7 @@ module _ (config : Config) (tuples : List Tuple) (lawful : Lawful tuples) (call 
           permitted = permitted;
           enters = rw answers enters;
           room = room;
-          lawful = moves-lawful faultless lawful (Moves.adds enters room);
+          lawful = moves-lawful faultless lawful permitted (Moves.adds enters room);
           same = same;
         }
     by-moves (Moves.full enters none) answers same put = absurd (false≢true (rw answers at put))
@@ -78,7 +78,7 @@ module _ (config : Config) (tuples : List Tuple) (lawful : Lawful tuples) (call 
       let same : held (spaceOf config tuples) ≡ tuples = held-of config tuples in
       let moved = moves tuples call faultless in
       let whole : Entered config tuples call (carriedBy (spaceOf config tuples) call (effect tuples call)) =
-      by-moves faultless member (rw same at p) moved refl (moves-carried config (lawful .few) moved) (rw same at put) in
+      by-moves faultless member (rw same at p) moved refl (moves-carried config (lawful .few) (rw same at p) moved) (rw same at put) in
       rw same whole
 
   pub entered : isAppended (applied (spaceOf config tuples) call .reply .outcome) ≡ true → Entered config tuples call (applied (spaceOf config tuples) call)
@@ -202,7 +202,7 @@ pub record Rebuilt (config : Config) (before rest : List Tuple) : Type 0 where
   pub left : after (spaceOf config before) (map (callOf config) rest) ≡ spaceOf config (before ++ rest)
 
 module _ (config : Config) (safe : sound config ≡ true) (other-policy : config .policy ≡ 5 → ⊥) where
-  pub rebuilt : (before rest : List Tuple) → Lawful before → allAppended (turnsFrom (spaceOf config before) (map (callOf config) rest)) ≡ true
+  pub rebuilt : (before rest : List Tuple) → Lawful config before → allAppended (turnsFrom (spaceOf config before) (map (callOf config) rest)) ≡ true
       → Rebuilt config before rest
   unfolding turnsFrom lastOf allAppended
   rebuilt before [] lawful put =

@@ -4,9 +4,9 @@ use mathlib.Core.Path.{_≡_, sym, ap, ap₂, _∙_}
 use Prim.Native.Nat.{ℕ, _+_, _≤_, _<_}
 use native.Mathlib.Numerals.{add-one}
 use native.Mathlib.Omega.{arith}
-use mathlib.Core.Bool.{Bool, true, false, _&&_}
+use mathlib.Core.Bool.{Bool, true, false, _&&_, and-eq-true-iff}
 use mathlib.Core.List.{List, [], _∷_, _++_}
-use lib.ListN.{length, take, length-take}
+use lib.ListN.{length, take, drop, length-take, take-append-drop}
 use lib.Seq.{take-suc, take-take, getD-take}
 use lib.Dec.{leb}
 use Rattle.dump.specs.Dumps.{isAppended, allAppended, isReached}
@@ -14,32 +14,26 @@ use Rattle.dump.proofs.HeldSteps.{callsFrom, no-tuple, tupleAt, callAt,
 use Rattle.dump.proofs.ReachLaws.{entered, call-entry}
 use Rattle.calls.specs.declared.effect.Effect.{Effect}
 use Rattle.calls.specs.declared.turn.Applied.{Applied}
-use Rattle.calls.specs.Turns.{behindFault, firstRefusal, judgedBy, judged, applied, turnsFrom, turns}
+use Rattle.calls.specs.Turns.{judged, applied, turnsFrom, turns}
 use Rattle.calls.proofs.RunSteps.{fresh-space}
-use Rattle.calls.proofs.UncheckedLaws.{formed-applied}
-use Rattle.policy.specs.Policies.{verdictOn, verdict}
-use Rattle.policy.specs.Verdicts.{demand}
+use Rattle.calls.proofs.TabledSteps.{table-more}
+use Rattle.calls.proofs.UncheckedLaws.{judged-rules}
 use Rattle.space.specs.declared.config.Config.{Config}
 use Rattle.space.specs.declared.space.Space.{Space}
-use Rattle.space.specs.Configs.{sound, known}
-use Rattle.space.specs.Spaces.{held, spaceOf, bounded, wellFormed, Typed}
+use Rattle.space.specs.Tables.{entered as entered·, emptyTable, tableOf, tabled}
+use Rattle.space.specs.Spaces.{held, spaceOf, wellFormed, Typed}
+use Rattle.space.proofs.TableLaws.{tabled-append}
 use Rattle.space.proofs.SpaceRules.{mem-take, Lawful, held-of, formed-of, formed-sound, formed-few, held-lawful}
 use Rattle.tuple.specs.declared.field.Tuple.{Tuple}
 use Rattle.tuple.specs.declared.field.Call.{Call}
 use Rattle.tuple.specs.Bounds.{capacity}
-use Rattle.tuple.specs.Faults.{callFault}
-use Rattle.tuple.specs.Refusals.{refusal}
 
--- a space with another count: of its tuples, it holds the first i
+-- the array of a space with another count: of its tuples, it holds the first n, beside the table of the first i
+abbrev pub cut : Space → ℕ → ℕ → Space
+cut space i n = record { config = space .config; count = n; tuples = space .tuples; table = tableOf (space .config) (take i (held space)) }
+
 abbrev pub counted : Space → ℕ → Space
-counted space i = record { config = space .config; count = i; tuples = space .tuples }
-
--- what judges a call: the configuration, the count and the tuples held
-abbrev judgedOn : Config → ℕ → List Tuple → Call → Effect
-judgedOn config count tuples call =
-    let fits = sound config && leb count capacity in
-    judgedBy tuples call (demand fits (refusal 1)
-    (behindFault (callFault call) (demand (known config (call .process)) (refusal 6) (demand fits (refusal 1) (verdictOn config tuples call)))))
+counted space i = cut space i i
 
 -- the space of the tuples before a place, and whether those from there on are appended
 abbrev upTo : Space → ℕ → Space
@@ -59,25 +53,30 @@ module _ (space : Space) where
     appended-all = rw (fresh-space (space .config) (formed-sound space formed), ← calls-all space)
 
     module _ (typed : Typed space) (i : ℕ) (below : i < space .count) where
-      lawful : Lawful (take i (held space))
+      orderly : tabled (space .config) (take i (held space)) ≡ true
+      orderly =
+          let whole : tabled (space .config) (take i (held space) ++ drop i (held space)) ≡ true = rw take-append-drop (held-lawful space formed .table) in
+          and-eq-true-iff _ _ .0 (rw (tabled-append (space .config) emptyTable (take i (held space)) (drop i (held space))) at whole) .0
+
+      lawful : Lawful (space .config) (take i (held space))
       lawful =
           let whole = held-lawful space formed in
-          record { few = simp length-take (omega (arith, whole .few)); entries = λ tuple m. whole .entries tuple (mem-take i (held space) m) }
+          record {
+            few = simp length-take (omega (arith, whole .few));
+            entries = λ tuple m. whole .entries tuple (mem-take i (held space) m);
+            table = orderly;
+          }
 
-      -- the call there is judged on the array as on the space of the tuples before it
-      judged-there : judged (counted space i) (callAt space i) ≡ judged (upTo space i) (callAt space i)
-      unfolding judged firstRefusal verdict bounded
-      judged-there =
-          let few = formed-few space formed in
-          let long : i ≡ length (take i (held space)) = simp length-take (omega (arith, typed .tuples)) in
-          ap₂ (λ (n : ℕ) (tuples : List Tuple). judgedOn (space .config) n tuples (callAt space i)) long
-          (sym (held-of (space .config) (take i (held space)) ∙ take-take i (space .count) (space .tuples) (omega arith)))
+      -- the call there is answered on the array as on the space of the tuples before it
+      same-held : held (counted space i) ≡ take i (held space)
+      same-held = sym (take-take i (space .count) (space .tuples) (omega arith))
 
       reply-there : judged (counted space i) (callAt space i) .reply ≡ applied (upTo space i) (callAt space i) .reply
       reply-there =
-          ap (λ (does : Effect). does .reply) judged-there
-          ∙ ap (λ (done : Applied). done .reply)
-          (formed-applied (upTo space i) (callAt space i) (formed-of (space .config) (take i (held space)) (formed-sound space formed) lawful))
+          let few = formed-few space formed in
+          let there = judged-rules (counted space i) (callAt space i) .within (formed-sound space formed) (omega arith) (typed .tuples)
+          (rw same-held (lawful .entries)) (rw same-held orderly) (ap (tableOf (space .config)) (sym same-held)) in
+          ap (λ (done : Applied). done .reply) (rw same-held at there)
 
       turn-there : appendedFrom space i
           ≡ isAppended (judged (counted space i) (callAt space i) .reply .outcome) && allAppended (turnsFrom (applied (upTo space i) (callAt space i) .space) (callsFrom space (i + 1)))
@@ -97,3 +96,9 @@ module _ (space : Space) where
           let put : isAppended (applied (upTo space i) (callAt space i) .reply .outcome) ≡ true = rw reply-there at e in
           let same = entered (space .config) (take i (held space)) lawful (callAt space i) put .same ∙ ap (spaceOf (space .config)) next-there in
           rw e at turn-there ∙ ap (λ (after : Space). allAppended (turnsFrom after (callsFrom space (i + 1)))) same
+
+      -- the table with the tuple there entered is that of the tuples up to it
+      pub table-there : entered· (space .config) (tableOf (space .config) (take i (held space))) (tupleAt space i) ≡ tableOf (space .config) (take (i + 1) (held space))
+      table-there =
+          table-more (space .config) (take i (held space)) (tupleAt space i)
+          ∙ ap (tableOf (space .config)) (rw (call-entry (space .config) (tupleAt space i)) at next-there)

@@ -77,7 +77,7 @@ module _ (space : Space) (typed : spaces.Typed space) (dumpable : Dumpable space
   -- they rebuild the tuples held from nothing
   pub back : Rebuilt (space .config) [] (held space)
   unfolding isReached turns dumpCalls
-  back = rebuilt (space .config) safe (dumpable .other) [] (held space) none-lawful (rw (fresh-space (space .config) safe) at (dumpable .reached))
+  back = rebuilt (space .config) safe (dumpable .other) [] (held space) (none-lawful (space .config)) (rw (fresh-space (space .config) safe) at (dumpable .reached))
 
   sound-call : (tuple : Tuple) → List·Memᴰ tuple (held space) → Sound (callOf (space .config) tuple)
   sound-call tuple m =

@@ -21,13 +21,13 @@ use Rattle.calls.specs.declared.change.Change.{Change}
 use Rattle.calls.specs.declared.turn.Applied.{Applied}
 use Rattle.calls.specs.Changes.{carriedOut}
 use Rattle.calls.specs.Effects.{effect}
-use Rattle.calls.specs.Turns.{firstRefusal, judged, carriedBy, applied, turnsFrom, turns, lastOf, after, last}
-use Rattle.calls.proofs.CallSteps.{Puts as Enters, Moves, moves, changed, moves-carried, Steps, steps, formed-bounded}
+use Rattle.calls.specs.Turns.{firstRefusal, searched, carriedBy, applied, turnsFrom, turns, lastOf, after, last}
+use Rattle.calls.proofs.CallSteps.{Puts as Enters, Moves, moves, changed, moves-carried, Steps, steps}
 use Rattle.calls.proofs.Effects.{no-inp}
 use Rattle.calls.proofs.RunSteps.{fresh-space, none-lawful, fresh-run, after-run}
 use Rattle.policy.specs.declared.verdicts.Verdict.the-variants.{Permit}
 use Rattle.policy.specs.Justified.{isDecisionCall, casVerdict, justified}
-use Rattle.policy.specs.Policies.{verdictOn, verdict}
+use Rattle.policy.specs.Policies.{verdictOn}
 use Rattle.policy.specs.Weak.{isWeakCall, weak}
 use Rattle.policy.proofs.DecisionLaws.{no-proposal}
 use Rattle.policy.proofs.PolicyLaws.{bare-rule, weak-rule, out-rule, decision-call}
@@ -58,13 +58,13 @@ use Rattle.tuple.proofs.ShapeLaws.{forms-made}
 
 -- ---- a call that is obeyed
 
-module _ (config : Config) (safe : sound config ≡ true) (tuples : List Tuple) (lawful : Lawful tuples) (call : Call) where
+module _ (config : Config) (safe : sound config ≡ true) (tuples : List Tuple) (lawful : Lawful config tuples) (call : Call) where
   obeyed : callFault call ≡ Absent → (1 ≤ call .process) × (call .process ≤ config .n) → verdictOn config tuples call ≡ Permit
       → applied (spaceOf config tuples) call .reply .outcome ≡ effect tuples call .reply .outcome
-  unfolding applied judged firstRefusal verdict known
+  unfolding applied searched firstRefusal known
   obeyed faultless member permitted =
       let formed = formed-of config tuples safe lawful in
-      rw (formed, formed-bounded (spaceOf config tuples) formed, faultless, le-leb 1 (call .process) (member .0), le-leb (call .process) (config .n) (member .1), held-of config tuples, permitted)
+      rw (formed, faultless, le-leb 1 (call .process) (member .0), le-leb (call .process) (config .n) (member .1), held-of config tuples, permitted)
 
 -- ---- what a call that appended its entry says of the entry's own call
 
@@ -140,7 +140,7 @@ module _ (process : ℕ) (template entry : Tuple) where
 
 -- ---- what was appended, its own call appends too
 
-module _ (config : Config) (safe : sound config ≡ true) (tuples : List Tuple) (lawful : Lawful tuples) (call : Call) (typed : Typed call)
+module _ (config : Config) (safe : sound config ≡ true) (tuples : List Tuple) (lawful : Lawful config tuples) (call : Call) (typed : Typed call)
     (put : isAppended (applied (spaceOf config tuples) call .reply .outcome) ≡ true) where
   here : Entered config tuples call (applied (spaceOf config tuples) call)
   here = entered config tuples lawful call put
@@ -179,7 +179,7 @@ data Went (config : Config) (tuples : List Tuple) (done : Applied) : Type 0 wher
   stays : done .space ≡ spaceOf config tuples → Went config tuples done
   appends : isAppended (done .reply .outcome) ≡ true → Went config tuples done
 
-module _ (config : Config) (strict : (1 ≤ config .policy) × (config .policy ≤ 4)) (tuples : List Tuple) (lawful : Lawful tuples) (call : Call) where
+module _ (config : Config) (strict : (1 ≤ config .policy) × (config .policy ≤ 4)) (tuples : List Tuple) (lawful : Lawful config tuples) (call : Call) where
   moved : {how : Outcome} {change : Change} {done : Applied} → verdictOn config tuples call ≡ Permit → Moves tuples call how change → done .reply .outcome ≡ how
       → done .space ≡ spaceOf config (changed tuples (call .entry) change) → Went config tuples done
   moved permitted (Moves.adds (Enters.by-out e) room) answers same = appends (rw answers)
@@ -198,7 +198,7 @@ module _ (config : Config) (strict : (1 ≤ config .policy) × (config .policy �
       let same : held (spaceOf config tuples) ≡ tuples = held-of config tuples in
       let move = moves tuples call faultless in
       let whole : Went config tuples (carriedBy (spaceOf config tuples) call (effect tuples call)) =
-      moved (rw same at p) move refl (moves-carried config (lawful .few) move) in
+      moved (rw same at p) move refl (moves-carried config (lawful .few) (rw same at p) move) in
       rw same whole
 
   went : Went config tuples (applied (spaceOf config tuples) call)
@@ -223,18 +223,18 @@ module _ (config : Config) (safe : sound config ≡ true) (other-policy : config
   reach-more : (tuples : List Tuple) (tuple : Tuple) → Reach tuples → isAppended (applied (spaceOf config tuples) (callOf config tuple) .reply .outcome) ≡ true
       → Reach (tuples ++ (tuple ∷ []))
   reach-more tuples tuple all put =
-      let left = rebuilt config safe other-policy [] tuples none-lawful all .left in
+      let left = rebuilt config safe other-policy [] tuples (none-lawful config) all .left in
       rw (map-append (callOf config) tuples (tuple ∷ [])) (append-more (spaceOf config []) (map (callOf config) tuples) (callOf config tuple) all (rw left put))
 
   -- a space of tuples that their own calls append
   record Left (space : Space) : Type 0 where
     tuples : List Tuple
-    lawful : Lawful tuples
+    lawful : Lawful config tuples
     same : space ≡ spaceOf config tuples
     reach : Reach tuples
 
   module _ (strict : (1 ≤ config .policy) × (config .policy ≤ 4)) where
-    call-left : (call : Call) → Typed call → (tuples : List Tuple) → Lawful tuples → Reach tuples → Went config tuples (applied (spaceOf config tuples) call)
+    call-left : (call : Call) → Typed call → (tuples : List Tuple) → Lawful config tuples → Reach tuples → Went config tuples (applied (spaceOf config tuples) call)
         → Left (applied (spaceOf config tuples) call .space)
     call-left call typed tuples lawful reach (stays same) = record { tuples = tuples; lawful = lawful; same = same; reach = reach }
     call-left call typed tuples lawful reach (appends put) =
@@ -263,7 +263,7 @@ module _ (config : Config) (safe : sound config ≡ true) (other-policy : config
         let parts = and-eq-true-iff (isAbsent (tupleFault true tuple)) _ .0 entry in
         rw (absent (tupleFault true tuple) (parts .0), parts .1)
 
-    bare-done : (tuples : List Tuple) (tuple : Tuple) → Lawful tuples → length tuples < capacity → isEntry tuple ≡ true
+    bare-done : (tuples : List Tuple) (tuple : Tuple) → Lawful config tuples → length tuples < capacity → isEntry tuple ≡ true
         → isAppended (applied (spaceOf config tuples) (callOf config tuple) .reply .outcome) ≡ true
     unfolding effect
     bare-done tuples tuple lawful room entry =
@@ -274,7 +274,7 @@ module _ (config : Config) (safe : sound config ≡ true) (other-policy : config
         rw (call-bare config tuple bare, answer)
 
     -- every list of entries that are not too many
-    bare-reach : (before rest : List Tuple) → Lawful before → Reach before → Lawful (before ++ rest) → Reach (before ++ rest)
+    bare-reach : (before rest : List Tuple) → Lawful config before → Reach before → Lawful config (before ++ rest) → Reach (before ++ rest)
     bare-reach before [] lawful reach all = rw (append-nil before) reach
     bare-reach before (tuple ∷ rest) lawful reach all =
         let room : length before < capacity = omega (arith, all .few, length-append before (tuple ∷ rest)) in
@@ -298,18 +298,18 @@ module _ (config : Config) (safe : sound config ≡ true) (other-policy : config
         tuples = run .tuples;
         lawful = run .lawful;
         same = run .same;
-        reach = bare-reach (eqb-true (config .policy) 0 e) [] (run .tuples) none-lawful none-reach (run .lawful);
+        reach = bare-reach (eqb-true (config .policy) 0 e) [] (run .tuples) (none-lawful config) none-reach (run .lawful);
       })
       (λ e. let other = eqb-false (config .policy) 0 e in
-      calls-left (omega arith, omega (arith, sound-range config safe, other-policy)) calls typed _ (record { tuples = []; lawful = none-lawful; same = fresh-space config safe; reach = none-reach }))
+      calls-left (omega arith, omega (arith, sound-range config safe, other-policy)) calls typed _ (record { tuples = []; lawful = none-lawful config; same = fresh-space config safe; reach = none-reach }))
 
   reached-of : (tuples : List Tuple) → Reach tuples → isReached (spaceOf config tuples) ≡ true
   unfolding isReached dumpCalls turns
   reached-of tuples reach = rw (held-of config tuples, fresh-space config safe) reach
 
   -- under policy 0 every well-formed space is reached
-  pub bare-reached : config .policy ≡ 0 → (tuples : List Tuple) → Lawful tuples → isReached (spaceOf config tuples) ≡ true
-  bare-reached none tuples lawful = reached-of tuples (bare-reach none [] tuples none-lawful none-reach lawful)
+  pub bare-reached : config .policy ≡ 0 → (tuples : List Tuple) → Lawful config tuples → isReached (spaceOf config tuples) ≡ true
+  bare-reached none tuples lawful = reached-of tuples (bare-reach none [] tuples (none-lawful config) none-reach lawful)
 
 -- ---- the answer
 

@@ -5,12 +5,14 @@ use Prim.Native.Nat.{ℕ}
 use mathlib.Core.Bool.{cond}
 use mathlib.Core.List.{List, [], _∷_, map}
 use lib.Dec.{eqb}
+use lib.ListN.{set}
 use Rattle.dump.specs.Dumps.{dumpBytes, dumpMost, writtenOf}
 use Rattle.dump.specs.Laws.{EndsIn}
 use Rattle.record.specs.declared.writer.Recorded.{Recorded}
 use Rattle.record.specs.declared.writer.Recorded.the-variants.{Length, Unwritten}
 use Rattle.space.specs.declared.space.Space.{Space}
 use Rattle.space.specs.Spaces.{spaceOf}
+use Rattle.space.specs.Tables.{emptyTable}
 use Rattle.tuple.specs.declared.field.Tuple.{Tuple}
 use Rattle.tuple.specs.Forms.{proposal, weakEntry, decisionEntry, listTuple, announcement}
 use Rattle.tuple.specs.Refusals.{refusal}
@@ -89,6 +91,14 @@ row space answer = record { space = space; answer = answer }
 abbrev pub unreached : Space → Row
 unreached space = row space (Unwritten (refusal 14))
 
+-- it is not well formed
+abbrev pub unformed : Space → Row
+unformed space = row space (Unwritten (refusal 1))
+
+-- the space with another table
+abbrev pub withTable : Space → List ℕ → Space
+withTable space table = record { config = space .config; count = space .count; tuples = space .tuples; table = table }
+
 abbrev pub rows : List Row
 rows =
     row worked (Length 54)
@@ -97,19 +107,29 @@ rows =
     -- two decisions of a round, an equal one and another one
     ∷ unreached (under 2 (proposal 0 1 80 ∷ proposal 0 3 80 ∷ decisionEntry 0 80 5 ∷ decisionEntry 0 80 5 ∷ []))
     ∷ unreached (under 2 (proposal 0 1 80 ∷ proposal 0 2 81 ∷ proposal 0 3 80 ∷ proposal 0 4 81 ∷ decisionEntry 0 80 5 ∷ decisionEntry 0 81 10 ∷ []))
-    -- two proposals of one process in a round, another one and an equal one
-    ∷ unreached (under 2 (proposal 0 1 80 ∷ proposal 0 1 81 ∷ []))
-    ∷ unreached (under 2 (proposal 0 1 80 ∷ proposal 0 1 80 ∷ []))
-    -- a proposal by process 0, by one above n, of a round above 7, of the mark
+    -- not well formed (2.9): two proposals of one process in a round, another one and an equal one, and the mark proposed
+    ∷ unformed (under 2 (proposal 0 1 80 ∷ proposal 0 1 81 ∷ []))
+    ∷ unformed (under 2 (proposal 0 1 80 ∷ proposal 0 1 80 ∷ []))
+    ∷ unformed (under 2 (proposal 0 1 0 ∷ []))
+    -- a proposal by process 0, by one above n, of a round above 7
     ∷ unreached (under 2 (proposal 0 0 80 ∷ []))
     ∷ unreached (under 2 (proposal 0 5 80 ∷ []))
     ∷ unreached (under 2 (proposal 8 1 80 ∷ []))
-    ∷ unreached (under 2 (proposal 0 1 0 ∷ []))
     -- a set above n
     ∷ unreached (under 2 (proposal 0 1 80 ∷ proposal 0 3 80 ∷ decisionEntry 0 80 21 ∷ []))
     -- under policy 3 a choice, and an offset outside the choices
     ∷ row (under 3 (proposal 0 1 3 ∷ [])) (Length 15)
-    ∷ unreached (under 3 (proposal 0 1 5 ∷ []))
+    ∷ unformed (under 3 (proposal 0 1 5 ∷ []))
+    -- the worked space with a code of its table changed, with one missing, and with one too many: of a process that did not propose, and above n
+    ∷ unformed (withTable worked (set (worked .table) 0 81))
+    ∷ unformed (withTable worked (set (worked .table) 2 0))
+    ∷ unformed (withTable worked (set (worked .table) 3 80))
+    ∷ unformed (withTable worked (set (worked .table) 4 80))
+    -- a table that is not empty under the policies that have none
+    ∷ unformed (withTable (under 0 []) (set emptyTable 0 80))
+    ∷ unformed (withTable (under 1 []) (set emptyTable 0 80))
+    ∷ unformed (withTable (under 4 []) (set emptyTable 0 80))
+    ∷ unformed (withTable (under 5 []) (set emptyTable 247 80))
     -- under policy 1 a decision, a decided mark, and any other tuple
     ∷ row (under 1 (weakEntry 0 80 ∷ [])) (Length 18)
     ∷ unreached (under 1 (weakEntry 0 0 ∷ []))
@@ -136,8 +156,8 @@ rows =
     ∷ row (under 5 []) (Unwritten (refusal 15))
     ∷ row (under 5 (listTuple 1 1 7 80 ∷ announcement 2 7 81 ∷ [])) (Unwritten (refusal 15))
     -- not well formed, and so not asked for 14: no policy of this number, and an offset beyond its kind
-    ∷ row (under 255 (proposal 0 1 80 ∷ [])) (Unwritten (refusal 1))
-    ∷ row (under 2 (proposal 0 1 200_002 ∷ [])) (Unwritten (refusal 1))
+    ∷ unformed (under 255 (proposal 0 1 80 ∷ []))
+    ∷ unformed (under 2 (proposal 0 1 200_002 ∷ []))
     ∷ []
 
 abbrev pub Rows : Type 0

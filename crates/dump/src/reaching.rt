@@ -5,11 +5,13 @@ ghost use Rattle.dump.specs.Dumps.{isAppended, isReached};
 ghost use Rattle.space.specs.Spaces.{wellFormed};
 use crate::appending::call_of;
 use calls::judge_unchecked;
+use space::PLACES;
 use space::Space;
+use space::enter;
 use tuple::Outcome;
 
-// Whether each tuple's call, on the tuples before it, is answered done or inserted. What stands behind those is not looked at (docs/DECISIONS.md,
-// "Functions that leave a test out").
+// Whether each tuple's call, on the tuples before it and their table, is answered done or inserted. What stands behind those is not looked at
+// (docs/DECISIONS.md, "Functions that leave a test out").
 pub(crate) fn is_reached(space: Space) -> bool
     requires { ⌜ wellFormed space ≡ true ⌝ }
     ensures { λ r. ⌜ r ≡ isReached space ⌝ }
@@ -17,6 +19,7 @@ pub(crate) fn is_reached(space: Space) -> bool
     let config = space.config;
     let count = space.count;
     let mut before = space;
+    before.table = [0; PLACES];
     let mut i = 0;
     while i < count {
         let tuple = space.tuples[i];
@@ -27,6 +30,7 @@ pub(crate) fn is_reached(space: Space) -> bool
         if !is_appended(outcome) {
             return false;
         }
+        enter(config, &mut before.table, tuple);
         i += 1;
     }
     true

@@ -5,21 +5,19 @@ use crate::making::make;
 use crate::making::open;
 use crate::making::quiet_out;
 use crate::making::set_up;
-use crate::taking::begin;
-use crate::taking::hand;
-use crate::taking::take_turn;
 use crate::tuples::any_word;
 use crate::tuples::asking;
 use crate::tuples::asking_weak;
+use crate::tuples::late_proposal;
 use crate::tuples::pair;
 use crate::tuples::proposal;
 use crate::tuples::weak;
 use crate::tuples::words;
+use space::PLACES;
 use space::Space;
 use tuple::CAS;
 use tuple::OFFSET;
 use tuple::OUT;
-use tuple::Offset;
 use tuple::PROCESS_SET;
 use tuple::RDP;
 use tuple::Tuple;
@@ -107,41 +105,27 @@ pub(crate) fn bottom() {
     // On proposals of three offsets by processes 1, 2 and 3.
     let board = quiet_out(proposed(80, 81), 3, proposal(3, 82));
     decide(labels, 3, board, 1, 0, 7);
-    // On spaces handed in: one that holds a proposal of process 1 twice, and one in which process 3 has proposed nothing but bottom.
+    // Spaces handed in that are not well formed: one that holds a proposal of process 1 twice, and one in which process 3 has proposed nothing but bottom.
     let mut twice = board;
     twice.count = 4;
     twice.tuples[3] = proposal(1, 80);
     decide(labels, 4, twice, 1, 0, 7);
     let mut without = board;
     without.tuples[2] = proposal(3, 0);
+    without.table[2] = 0;
     decide(labels, 5, without, 1, 0, 7);
 }
 
-// A space handed in on which process 1 stands twice: it has proposed -40 and 40, process 2 has proposed 40 and process 3 -41. So 40 is proposed
-// by two of the three, and they don't bear bottom, though the oldest proposals of all three differ. These are what process 4 reads, and the
-// reply to its cas doesn't fit.
+// A space handed in on which process 1 stands twice: it has proposed -40 and 40, process 2 has proposed 40 and process 3 -41. Such a space is not well formed.
 pub(crate) fn two_offsets() {
     let labels: &[u8] = b"\
         two offsets, bottom\n\
-        two offsets, 40 by both\n\
-        two offsets, 4 proposes\n\
-        two offsets, 4 reads 1\n\
-        two offsets, 4 reads 2\n\
-        two offsets, 4 reads 3\n\
-        two offsets, 4 for bottom\n\
-        two offsets, 4 handed that";
+        two offsets, 40 by both";
     let mut board = quiet_out(proposed(80, 81), 3, proposal(3, 82));
     board.count = 4;
     board.tuples[3] = proposal(1, 81);
     decide(labels, 1, board, 1, 0, 7);
     decide(labels, 2, board, 1, 81, 3);
-    let mut turn = begin(board, 4, Offset::Hundredths(0));
-    turn = take_turn(labels, 3, turn);
-    turn = take_turn(labels, 4, turn);
-    turn = take_turn(labels, 5, turn);
-    turn = take_turn(labels, 6, turn);
-    turn = take_turn(labels, 7, turn);
-    hand(labels, 8, turn);
 }
 
 // A cas of bottom under policy 1: it is denied on a free and on a decided round. On a space handed in that holds a decided bottom, a good cas
@@ -205,7 +189,13 @@ pub(crate) fn not_well_formed() {
         not well formed, 257 tuples\n\
         not well formed, open field\n\
         not well formed, offset above 100000\n\
-        not well formed, unused place";
+        not well formed, unused place\n\
+        not well formed, wrong code in the table\n\
+        not well formed, missing in the table\n\
+        not well formed, too many in the table\n\
+        not well formed, a table under policy 0\n\
+        a proposal by 5 of 4\n\
+        a proposal of round 8";
     let blank = Tuple::blank();
     let own = proposal(1, 80);
     let mut board = open(4, 1, 2);
@@ -225,6 +215,24 @@ pub(crate) fn not_well_formed() {
     let mut dirty = open(4, 1, 2);
     dirty.tuples[255] = own;
     make(labels, 8, dirty, 1, RDP, asking(), blank);
+    // The table of the space's proposals, of which the first is process 1's.
+    let two = proposed(80, 81);
+    with_code(labels, 9, two, 0, 81);
+    with_code(labels, 10, two, 0, 0);
+    with_code(labels, 11, two, 2, 80);
+    with_code(labels, 12, open(1, 0, 0), 0, 80);
+    // What has no place in it does not disturb.
+    held_first(labels, 13, proposal(5, 80));
+    held_first(labels, 14, late_proposal(1, 80));
+}
+
+// Makes an rdp on a space handed in with another code at a place of its table.
+fn with_code(labels: &[u8], number: usize, space: Space, place: usize, code: u64) {
+    let mut board = space;
+    if place < PLACES {
+        board.table[place] = code;
+    }
+    make(labels, number, board, 1, RDP, asking(), Tuple::blank());
 }
 
 // Makes an rdp on a space handed in that holds one tuple.
@@ -242,8 +250,8 @@ pub(crate) fn slips() {
         slip signs 40\n\
         slip bottom for 0\n\
         slip bottom for bottom\n\
+        slip two proposals, again\n\
         slip two proposals, set 1\n\
-        slip two proposals, set 1 2\n\
         slip wrapping sum\n\
         slip first cas\n\
         slip good cas again\n\
@@ -258,12 +266,11 @@ pub(crate) fn slips() {
     let holds = quiet_out(open(1, 0, 0), 1, bottom);
     make(labels, 3, holds, 1, RDP, pair(OFFSET, 1), blank);
     make(labels, 4, holds, 1, RDP, bottom, blank);
-    // A space handed in holds two equal proposals of process 1: they are one process's.
-    let mut board = proposed(80, 80);
-    let mut twice = board;
-    twice.tuples[1] = proposal(1, 80);
-    decide(labels, 5, twice, 1, 80, 1);
-    decide(labels, 6, twice, 1, 80, 3);
+    // A process that proposes twice is one process.
+    let mut board = quiet_out(open(4, 1, 2), 1, proposal(1, 80));
+    board = make(labels, 5, board, 1, OUT, blank, proposal(1, 80));
+    board = decide(labels, 6, board, 1, 80, 1);
+    board = quiet_out(board, 2, proposal(2, 80));
     // 3t + 1 exceeds a u64.
     set_up(labels, 7, 1, 0x5555_5555_5555_5555);
     // A good cas on a decided round is held; a bad one is denied.

@@ -1,9 +1,9 @@
 // The worked script and the unstarred edge values of document 01, a weak round of document 02, and spaces handed in, made as calls, one labelled
 // line each.
+mod asking;
 mod cases;
 mod lines;
 mod making;
-mod taking;
 mod tuples;
 
 fn main() {
@@ -15,4 +15,5 @@ fn main() {
     cases::capacity();
     cases::not_well_formed();
     cases::slips();
+    asking::questions();
 }

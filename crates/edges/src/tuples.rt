@@ -21,6 +21,11 @@ pub(crate) fn proposal(process: u64, code: u64) -> Tuple {
     make(PROPOSAL, 0, process, code, 0)
 }
 
+// The same of round 8, which is none.
+pub(crate) fn late_proposal(process: u64, code: u64) -> Tuple {
+    make(PROPOSAL, 8, process, code, 0)
+}
+
 // (word 2, count 0, offset, processes)
 pub(crate) fn decision(code: u64, set: u64) -> Tuple {
     make(DECISION_ENTRY, 0, code, set, 0)

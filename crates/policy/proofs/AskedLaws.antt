@@ -1,17 +1,27 @@
 -- Answers that agree on rounds 0 to 7 and processes 1 to n give one verdict under policies 2 and 3 to a call by one of these processes: neither policy
 -- asks for more. From the definitions of the two policies.
-use mathlib.Core.Path.{_≡_}
+use mathlib.Core.Path.{_≡_, sym}
 use Prim.Native.Nat.{ℕ, _≤_, _<_}
+use native.Mathlib.Omega.{arith}
+use mathlib.Core.Bool.{true, false}
 use borrow.Table.Steps.{cases}
 use Rattle.policy.specs.Default.{bearsBottom}
 use Rattle.policy.specs.Justified.{isOwnProposal, isFree, outVerdict, isDecisionCall, bearsOffset, bears, casVerdict, justified}
-use Rattle.policy.proofs.PolicyLaws.{own-parts, decision-rule}
+use Rattle.policy.specs.Laws.{VerdictFound}
+use Rattle.policy.specs.Policies.{verdictOn, tableVerdict, listVerdict, verdict}
+use Rattle.policy.proofs.PolicyLaws.{own-parts, decision-rule, under-shared}
 use Rattle.space.specs.declared.config.Config.{Config}
 use Rattle.space.specs.declared.proposal.Sought.{Sought}
 use Rattle.space.specs.declared.proposal.Sought.the-variants.{One, Some}
+use Rattle.space.specs.declared.space.Space.{Space}
 use Rattle.space.specs.Bounds.{rounds}
-use Rattle.space.specs.Questions.{Asked}
+use Rattle.space.specs.Configs.{hasProposals, hasList}
+use Rattle.space.specs.Questions.{Asked, bySearch}
 use Rattle.space.specs.Shapes.{roundOf, processOf}
+use Rattle.space.specs.Spaces.{held, wellFormed}
+use Rattle.space.specs.Tables.{byTable}
+use Rattle.space.proofs.SpaceRules.{formed-sound, formed-bounded}
+use Rattle.space.proofs.TabledLaws.{tabled-rules}
 use Rattle.tuple.specs.declared.field.Tuple.{Tuple}
 use Rattle.tuple.specs.declared.field.Call.{Call}
 
@@ -55,3 +65,33 @@ module _ (config : Config) (a b : Asked) (agree : Agree config a b) where
     pub agree-justified : justified config a call ≡ justified config b call
     unfolding justified
     agree-justified = rw (agree-out, agree-cas call)
+
+-- ---- from the table
+
+module _ (space : Space) (formed : wellFormed space ≡ true) where
+  found-agree : hasProposals (space .config) ≡ true → Agree (space .config) (byTable (space .config) (space .table)) (bySearch (space .config) (held space))
+  found-agree rests =
+      let rule = tabled-rules space formed rests in
+      record {
+        taken = λ round process below from to. rule .taken round process (omega arith) from to;
+        every = λ sought round set below. rule .every sought round set (omega arith);
+        crowded = λ round set below. rule .crowded round set (omega arith);
+      }
+
+  found-other : (call : Call) → 1 ≤ call .process → call .process ≤ space .config .n → hasList (space .config) ≡ false
+      → tableVerdict (space .config) (space .table) call ≡ verdictOn (space .config) (held space) call
+  unfolding tableVerdict verdictOn
+  found-other call from to other =
+      rw (formed-sound space formed, other)
+      (cases (hasProposals (space .config))
+      (λ rests. rw (rests, agree-justified (space .config) _ _ (found-agree rests) call from to))
+      (λ none. rw none))
+
+  found-list : (call : Call) → hasList (space .config) ≡ true → listVerdict space call ≡ verdictOn (space .config) (held space) call
+  unfolding listVerdict
+  found-list call lists = rw (formed-bounded space formed, lists) (sym (under-shared (space .config) (held space) call lists))
+
+pub verdict-found : VerdictFound
+unfolding verdict
+verdict-found space call formed from to =
+    cases (hasList (space .config)) (λ lists. rw lists (found-list space formed call lists)) (λ other. rw other (found-other space formed call from to other))

@@ -13,10 +13,10 @@ use Rattle.policy.specs.declared.verdicts.Verdict.{Verdict}
 use Rattle.policy.specs.declared.verdicts.Verdict.the-variants.{Permit, Refuse}
 use Rattle.policy.specs.Justified.{isOwnProposal, isFree, outVerdict, isDecisionCall, bearsOffset, bears, casVerdict, justified}
 use Rattle.policy.specs.Default.{bearsBottom}
-use Rattle.policy.specs.Laws.{Denial, VerdictRule, SecondProposal, SecondRule, Unborne, UnborneRule, OtherwiseRule, UnknownRule, BoundedRule, BareRule, WeakRule, OutRule, RdpRule, InpRule, DecisionCall, BearsOffset, BearsBottom, CasOffsetRule, JustifiedOnly, CasBottomRule, CasChoiceRule}
+use Rattle.policy.specs.Laws.{Denial, VerdictRule, SecondProposal, SecondRule, Unborne, UnborneRule, OtherwiseRule, UnknownRule, BoundedRules, BareRule, WeakRule, OutRule, RdpRule, InpRule, DecisionCall, BearsOffset, BearsBottom, CasOffsetRule, JustifiedOnly, CasBottomRule, CasChoiceRule}
 use Rattle.policy.specs.Laws.Denial.{denied, second, unborne}
 use Rattle.policy.specs.Listing.{mayList, mayAnnounce, mayTakeOff, shared}
-use Rattle.policy.specs.Policies.{verdictOn, verdict}
+use Rattle.policy.specs.Policies.{verdictOn, tableVerdict, listVerdict}
 use Rattle.policy.specs.Shapes.{sameRound, isWeakTemplate, isWeakEntry, isDecisionTemplate, isDecision, decidedCode, setOf}
 use Rattle.policy.specs.Verdicts.{demand}
 use Rattle.policy.specs.Weak.{isWeakCall, weak}
@@ -52,9 +52,9 @@ demanded false why next h = let z : _≡_ {A = ℕ} 0 1 = cc in absurd (omega ar
 
 -- ---- by the policy's number
 
-pub bounded-rule : BoundedRule
-unfolding verdict
-bounded-rule space call out-of = rw out-of
+pub bounded-rules : BoundedRules
+unfolding tableVerdict listVerdict
+bounded-rules space call = record { table = λ out-of. rw out-of; list = λ out-of. rw out-of }
 
 module _ (config : Config) (tuples : List Tuple) (call : Call) where
   pub under-weak : config .policy ≡ 1 → verdictOn config tuples call ≡ weak call

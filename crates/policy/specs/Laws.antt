@@ -7,17 +7,17 @@ use Prim.Native.Nat.{ℕ, _+_, _-_, _%_, _≤_, _<_}
 use lib.Count.{ones}
 use Rattle.policy.specs.declared.verdicts.Verdict.the-variants.{Permit, Refuse}
 use Rattle.policy.specs.Listing.{isListTemplate, preferred}
-use Rattle.policy.specs.Policies.{verdictOn, verdict}
+use Rattle.policy.specs.Policies.{verdictOn, tableVerdict, listVerdict, verdict}
 use Rattle.policy.specs.Shapes.{isWeakTemplate, isWeakEntry, isDecisionTemplate, isDecision, decidedCode, setOf}
 use Rattle.space.specs.declared.config.Config.{Config}
 use Rattle.space.specs.declared.space.Space.{Space}
-use Rattle.space.specs.Configs.{hasProposals, hasList}
+use Rattle.space.specs.Configs.{sound, hasProposals, hasList}
 use Rattle.space.specs.Announcements.{isAnnouncement, announcerOf, Announcing, Oldest}
 use Rattle.space.specs.Lists.{listedProcess, isListTuple, positionOf, serialOf, shiftCode, Filled, Listed}
 use Rattle.space.specs.Members.{Member}
 use Rattle.space.specs.Proposals.{offered, decidable, Placed, Proposed}
 use Rattle.space.specs.Shapes.{roundOf, isProposal, processOf, proposedCode}
-use Rattle.space.specs.Spaces.{bounded}
+use Rattle.space.specs.Spaces.{held, bounded, wellFormed}
 use Rattle.tuple.specs.declared.field.Tuple.{Tuple}
 use Rattle.tuple.specs.declared.field.Call.{Call}
 use Rattle.tuple.specs.declared.refusal.Refusal.{Refusal}
@@ -38,9 +38,22 @@ VerdictRule =
     (config : Config) (tuples : List Tuple) (call : Call)
     → (verdictOn config tuples call ≡ Permit) ⊎ ((why : Refusal) × Denial why × (verdictOn config tuples call ≡ Refuse why))
 
--- on a space whose configuration or count is out of bounds every call is refused 1
-abbrev pub BoundedRule : Type 0
-BoundedRule = (space : Space) (call : Call) → bounded space ≡ false → verdict space call ≡ Refuse (refusal 1)
+-- out of bounds every call is refused 1: where the table is asked, of a configuration that is not sound, and where the list is, also of too many tuples
+pub record BoundedRule (space : Space) (call : Call) : Type 0 where
+  pub table : sound (space .config) ≡ false → tableVerdict (space .config) (space .table) call ≡ Refuse (refusal 1)
+  pub list : bounded space ≡ false → listVerdict space call ≡ Refuse (refusal 1)
+
+abbrev pub BoundedRules : Type 0
+BoundedRules = (space : Space) (call : Call) → BoundedRule space call
+
+-- on every well-formed space the verdict, of policies 2 and 3 from the table, is the one found by searching the tuples, for every call by a process 1 to n
+abbrev pub VerdictFound : Type 0
+VerdictFound =
+    (space : Space) (call : Call)
+    → wellFormed space ≡ true
+    → 1 ≤ call .process
+    → call .process ≤ space .config .n
+    → verdict space call ≡ verdictOn (space .config) (held space) call
 
 -- a number that is no policy's permits nothing
 abbrev pub UnknownRule : Type 0

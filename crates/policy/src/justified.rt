@@ -3,22 +3,21 @@ ghost use mathlib.Core.Path.{_≡_};
 ghost use mathlib.Core.Bool.{true};
 ghost use Rattle.policy.specs.Justified.{isOwnProposal, isFree, outVerdict, isDecisionCall, bearsOffset, bears as bears·, casVerdict, justified as justified·};
 ghost use Rattle.space.specs.Configs.{sound};
-ghost use Rattle.space.specs.Questions.{bySearch};
-ghost use Rattle.space.specs.Spaces.{held};
+ghost use Rattle.space.specs.Tables.{byTable};
 use crate::default::bears_bottom;
 use crate::shape::is_decision;
 use crate::shape::is_decision_template;
 use crate::shape::same_round;
 use crate::verdicts::Verdict;
 use space::Config;
+use space::PLACES;
 use space::ROUNDS;
 use space::Sought;
-use space::Space;
 use space::decidable;
-use space::every_proposed;
+use space::every_in;
 use space::is_proposal;
-use space::is_taken;
 use space::offered;
+use space::taken_in;
 use space::within;
 use tuple::BOTTOM;
 use tuple::CAS;
@@ -31,34 +30,33 @@ use tuple::all_five;
 use tuple::all_four;
 
 // The verdict of policies 2 (Fig. 5) and 3.
-pub(crate) fn justified(space: Space, call: Call) -> Verdict
-    requires { ⌜ sound (space .config) ≡ true ⌝ }
-    ensures { λ r. ⌜ r ≡ justified· (space .config) (bySearch (space .config) (held space)) call ⌝ }
+pub(crate) fn justified(config: Config, table: &[u64; PLACES], call: Call) -> Verdict
+    requires { ⌜ sound config ≡ true ⌝ }
+    ensures { λ r. ⌜ r ≡ justified· config (byTable config (now (table .entry))) call ⌝ }
 {
     let code = call.code;
     if code == OUT {
-        return out_verdict(space, call);
+        return out_verdict(config, table, call);
     }
     if code == RDP {
         return Verdict::Permit;
     }
     if code == CAS {
-        return cas_verdict(space, call);
+        return cas_verdict(config, table, call);
     }
     Verdict::Refuse(Refusal::Denied)
 }
 
 // ---- out
 
-fn out_verdict(space: Space, call: Call) -> Verdict
-    ensures { λ r. ⌜ r ≡ outVerdict (space .config) (bySearch (space .config) (held space)) call ⌝ }
+fn out_verdict(config: Config, table: &[u64; PLACES], call: Call) -> Verdict
+    ensures { λ r. ⌜ r ≡ outVerdict config (byTable config (now (table .entry))) call ⌝ }
 {
-    let config = space.config;
     let entry = call.entry;
     if !is_own_proposal(config, call) {
         return Verdict::Refuse(Refusal::Denied);
     }
-    if !is_free(space, entry) {
+    if !is_free(config, table, entry) {
         return Verdict::Refuse(Refusal::SecondProposal);
     }
     Verdict::Permit
@@ -82,26 +80,25 @@ fn is_own_proposal(config: Config, call: Call) -> bool
 }
 
 // Whether no proposal of that round and process stands in the space, of an offset or bottom.
-fn is_free(space: Space, entry: Tuple) -> bool
-    ensures { λ r. ⌜ r ≡ isFree (bySearch (space .config) (held space)) entry ⌝ }
+fn is_free(config: Config, table: &[u64; PLACES], entry: Tuple) -> bool
+    ensures { λ r. ⌜ r ≡ isFree (byTable config (now (table .entry))) entry ⌝ }
 {
     let second = entry.fields[1];
     let third = entry.fields[2];
-    !is_taken(space, second.value, third.value)
+    !taken_in(config, table, second.value, third.value)
 }
 
 // ---- cas
 
-fn cas_verdict(space: Space, call: Call) -> Verdict
-    requires { ⌜ sound (space .config) ≡ true ⌝ }
-    ensures { λ r. ⌜ r ≡ casVerdict (space .config) (bySearch (space .config) (held space)) call ⌝ }
+fn cas_verdict(config: Config, table: &[u64; PLACES], call: Call) -> Verdict
+    requires { ⌜ sound config ≡ true ⌝ }
+    ensures { λ r. ⌜ r ≡ casVerdict config (byTable config (now (table .entry))) call ⌝ }
 {
-    let config = space.config;
     let entry = call.entry;
     if !is_decision_call(config, call) {
         return Verdict::Refuse(Refusal::Denied);
     }
-    if !bears(space, entry) {
+    if !bears(config, table, entry) {
         return Verdict::Refuse(Refusal::Unborne);
     }
     Verdict::Permit
@@ -125,28 +122,28 @@ fn is_decision_call(config: Config, call: Call) -> bool
 }
 
 // Whether the set of a decision bears its offset, or bottom.
-fn bears(space: Space, entry: Tuple) -> bool
-    requires { ⌜ sound (space .config) ≡ true ⌝ }
-    ensures { λ r. ⌜ r ≡ bears· (space .config) (bySearch (space .config) (held space)) entry ⌝ }
+fn bears(config: Config, table: &[u64; PLACES], entry: Tuple) -> bool
+    requires { ⌜ sound config ≡ true ⌝ }
+    ensures { λ r. ⌜ r ≡ bears· config (byTable config (now (table .entry))) entry ⌝ }
 {
     let second = entry.fields[1];
     let third = entry.fields[2];
     let fourth = entry.fields[3];
     if third.value == BOTTOM {
-        bears_bottom(space, second.value, fourth.value)
+        bears_bottom(config, table, second.value, fourth.value)
     } else {
-        bears_offset(space, second.value, fourth.value, third.value)
+        bears_offset(config, table, second.value, fourth.value, third.value)
     }
 }
 
 // Whether a set bears an offset: t + 1 members that have all proposed it.
-fn bears_offset(space: Space, round: u64, set: u64, code: u64) -> bool
-    requires { ⌜ sound (space .config) ≡ true ⌝ }
-    ensures { λ r. ⌜ r ≡ bearsOffset (space .config) (bySearch (space .config) (held space)) round set code ⌝ }
+fn bears_offset(config: Config, table: &[u64; PLACES], round: u64, set: u64, code: u64) -> bool
+    requires { ⌜ sound config ≡ true ⌝ }
+    ensures { λ r. ⌜ r ≡ bearsOffset config (byTable config (now (table .entry))) round set code ⌝ }
 {
-    let t = space.config.t;
+    let t = config.t;
     if u64::count_ones(set) < (t + 1) as u32 {
         return false;
     }
-    every_proposed(space, Sought::One(code), round, set)
+    every_in(config, table, Sought::One(code), round, set)
 }

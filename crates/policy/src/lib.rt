@@ -7,6 +7,7 @@ mod shape;
 mod verdicts;
 mod weak;
 
-pub use policy::verdict;
+pub use policy::list_verdict;
+pub use policy::table_verdict;
 pub use shape::is_decision;
 pub use verdicts::Verdict;

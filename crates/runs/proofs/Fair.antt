@@ -13,11 +13,11 @@ use Rattle.tuple.specs.declared.field.Tuple.{Tuple}
 use Rattle.tuple.specs.declared.field.Call.{Call}
 
 pub record Fair (config : Config) (tuples : List Tuple) : Type 0 where
-  pub lawful : Lawful tuples
+  pub lawful : Lawful config tuples
   pub tidy : Tidy config tuples
 
 pub fair-none : (config : Config) → Fair config []
-fair-none config = record { lawful = none-lawful; tidy = tidy-none config }
+fair-none config = record { lawful = none-lawful config; tidy = tidy-none config }
 
 -- one space has one list of tuples
 pub same-tuples : (config : Config) (a b : List Tuple) → spaceOf config a ≡ spaceOf config b → a ≡ b
@@ -33,4 +33,4 @@ fair-step {config} s {tuples} fair call =
     let run : Run config (spaceOf config tuples) = record { tuples = tuples; lawful = fair .lawful; same = refl } in
     let then = next {call = call} run .run in
     let same : then .tuples ≡ step .next = same-tuples config (then .tuples) (step .next) (sym (then .same) ∙ step .space) in
-    record { step = step; fair = record { lawful = subst Lawful same (then .lawful); tidy = step .tidy } }
+    record { step = step; fair = record { lawful = subst (Lawful config) same (then .lawful); tidy = step .tidy } }

@@ -19,15 +19,14 @@ use Rattle.calls.specs.Effects.{effect, appends, rdpEffect, casEffect}
 use Rattle.policy.specs.Shapes.{decidedCode, setOf, isDecision}
 use Rattle.space.specs.Members.{within}
 use Rattle.policy.specs.declared.verdicts.Verdict.the-variants.{Permit}
-use Rattle.policy.specs.Policies.{verdictOn, verdict}
+use Rattle.policy.specs.Policies.{verdictOn}
 use Rattle.space.specs.Spaces.{spaceOf}
 use Rattle.calls.specs.declared.turn.Applied.{Applied}
 use Rattle.space.specs.Bounds.{rounds}
 use Rattle.space.specs.Configs.{known}
 use Rattle.space.specs.Proposals.{offered, decidable}
 use Rattle.space.specs.Shapes.{processOf, isProposal, roundOf}
-use Rattle.calls.specs.Turns.{firstRefusal, judged, carriedBy, applied}
-use Rattle.calls.proofs.CallSteps.{formed-bounded}
+use Rattle.calls.specs.Turns.{firstRefusal, searched, carriedBy, applied}
 use Rattle.calls.proofs.ChangeLaws.{carried-rules}
 use Rattle.calls.proofs.Effects as Effects
 use Rattle.space.proofs.SpaceRules.{stands, place, held-of, formed-of}
@@ -67,10 +66,10 @@ cas-faultless q r code set a b c = rw (le-leb r largestCount a, le-leb code larg
 module _ {config : Config} (s : SoundConfig config) {tuples : List Tuple} (fair : Fair config tuples) where
   pub obeyed : (call : Call) → callFault call ≡ Absent → 1 ≤ call .process → call .process ≤ config .n → verdictOn config tuples call ≡ Permit
       → applied (spaceOf config tuples) call ≡ carriedBy (spaceOf config tuples) call (effect tuples call)
-  unfolding applied judged firstRefusal known verdict
+  unfolding applied searched firstRefusal known
   obeyed call fault low high p =
       let formed = formed-of config tuples (config-sound s) (fair .lawful) in
-      rw (formed, formed-bounded (spaceOf config tuples) formed, fault, le-leb 1 (call .process) low, le-leb (call .process) (config .n) high, held-of config tuples, p)
+      rw (formed, fault, le-leb 1 (call .process) low, le-leb (call .process) (config .n) high, held-of config tuples, p)
 
   -- a call that puts its entry finds room
   room : (call : Call) (how : Outcome) → applied (spaceOf config tuples) call ≡ carriedBy (spaceOf config tuples) call (appends how (length tuples))

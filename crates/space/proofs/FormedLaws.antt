@@ -8,8 +8,9 @@ use native.Mathlib.Omega.{arith}
 use lib.ListN.{length, getD}
 use borrow.Author.Tests.{le-leb}
 use Rattle.space.specs.Laws.{WellFormedRule}
-use Rattle.space.specs.Spaces.{placeSound, placesFrom, bounded, wellFormed}
-use Rattle.space.proofs.SpaceRules.{stands, blank-sound, formed-sound, formed-few, formed-places}
+use Rattle.space.specs.Spaces.{placeSound, placesFrom, tableSound, bounded, wellFormed}
+use Rattle.space.proofs.SpaceRules.{stands, blank-sound, formed-sound, formed-few, formed-places, formed-tabled, formed-table}
+use Rattle.space.proofs.TabledLaws.{sound-tabled, tabled-sound}
 use Rattle.tuple.specs.declared.field.Tuple.{Tuple}
 use Rattle.tuple.specs.Faults.{isEntry}
 use Rattle.tuple.specs.Bounds.{capacity}
@@ -56,7 +57,7 @@ places-rule (suc count) (tuple ∷ tuples) =
     )
 
 pub well-formed-rule : WellFormedRule
-unfolding wellFormed bounded placeSound
+unfolding wellFormed bounded placeSound tableSound
 well-formed-rule space typed =
     let rule = places-rule (space .count) (space .tuples) in (
       λ formed. let each = rule .0 (formed-places space formed) in
@@ -68,10 +69,13 @@ well-formed-rule space typed =
             unused = λ i behind here. let inside : i < length (space .tuples) = omega arith in
                 let at = getD (space .tuples) i blankTuple in
                 sym (blank-tuple at (typed .fields at (stands (space .tuples) i inside)) (each .unused i behind inside));
+            table = sound-tabled space (formed-sound space formed) (omega (arith, few, typed .tuples)) (formed-tabled space formed) (formed-table space formed);
           },
-      λ parts. rw (parts .config, le-leb (space .count) capacity (parts .few))
-          (rule .1 (record {
+      λ parts.
+          let table = tabled-sound space (parts .config) (omega (arith, parts .few, typed .tuples)) (parts .table) in
+          let places = rule .1 (record {
             used = λ i below here. parts .used i below;
             unused = λ i behind here. rw (parts .unused i behind (omega arith)) blank-sound;
-          })),
+          }) in
+          rw (parts .config, le-leb (space .count) capacity (parts .few), places, table .0, table .1),
     )

@@ -11,5 +11,8 @@ pub mod ShapeLaws
 pub mod SpaceLaws
 pub mod SpaceRules
 mod Strikes
+pub mod TableLaws
+pub mod TableSteps
+pub mod TabledLaws
 pub mod TallyLaws
 pub mod WordLaws

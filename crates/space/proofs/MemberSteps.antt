@@ -33,6 +33,44 @@ unfolding every
 every-none test zero k = refl
 every-none test (suc n) k = every-none test n (k + 1)
 
+pub counted-step : (test : ℕ → Bool) (n k rest : ℕ) → k < n
+    → counted test (n - k) (k + 1) rest ≡ cond (eqb (rest % 2) 0) 0 (cond (test (k + 1)) 1 0) + counted test (n - (k + 1)) (k + 1 + 1) (rest / 2)
+unfolding counted
+counted-step test n k rest h = let more : n - k ≡ suc (n - (k + 1)) = omega arith in ap (λ (m : ℕ). counted test m (k + 1) rest) more
+
+pub counted-end : (test : ℕ → Bool) (n k rest : ℕ) → n ≤ k → counted test (n - k) (k + 1) rest ≡ 0
+unfolding counted
+counted-end test n k rest h = let none : n - k ≡ 0 = omega arith in ap (λ (m : ℕ). counted test m (k + 1) rest) none
+
+pub counted-none : (test : ℕ → Bool) (n k : ℕ) → counted test n k 0 ≡ 0
+unfolding counted
+counted-none test zero k = refl
+counted-none test (suc n) k = ap (λ (m : ℕ). 0 + m) (counted-none test n (k + 1))
+
+-- a member counts for one at most
+pub counted-one : (out passes : Bool) → cond out 0 (cond passes 1 0) ≤ 1
+counted-one true passes = omega arith
+counted-one false true = omega arith
+counted-one false false = omega arith
+
+-- tests that agree on those from k to k + n - 1
+module _ (a b : ℕ → Bool) where
+  abbrev pub Agree : ℕ → ℕ → Type 0
+  Agree n k = (j : ℕ) → k ≤ j → j < k + n → a j ≡ b j
+
+  later : (n k : ℕ) → Agree (suc n) k → Agree n (k + 1)
+  later n k same j low high = same j (omega arith) (omega arith)
+
+  pub every-same : (n k set : ℕ) → Agree n k → every a n k set ≡ every b n k set
+  unfolding every
+  every-same zero k set same = refl
+  every-same (suc n) k set same = rw (same k (omega arith) (omega arith), every-same n (k + 1) (set / 2) (later n k same))
+
+  pub counted-same : (n k set : ℕ) → Agree n k → counted a n k set ≡ counted b n k set
+  unfolding counted
+  counted-same zero k set same = refl
+  counted-same (suc n) k set same = rw (same k (omega arith) (omega arith), counted-same n (k + 1) (set / 2) (later n k same))
+
 -- nobody passes a test that fails
 pub counted-never : (n k set : ℕ) → counted (λ j. false) n k set ≡ 0
 unfolding counted

@@ -75,7 +75,7 @@ decidable-rule config o two =
 -- ---- what is proposed
 
 module _ (config : Config) (sought : Sought) (round process : ℕ) where
-  proposes-rule : (tuple : Tuple)
+  pub proposes-rule : (tuple : Tuple)
       → (proposes config sought round process tuple ≡ true)
       ↔ ((isProposal tuple ≡ true) × (roundOf tuple ≡ round) × (processOf tuple ≡ process) × (isSought config sought (proposedCode tuple) ≡ true))
   unfolding proposes

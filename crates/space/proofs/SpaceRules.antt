@@ -1,5 +1,5 @@
 -- A well-formed space is the space of the tuples that it holds, and the space of entries that are not too many is well formed.
-use mathlib.Core.Path.{_≡_, refl, sym, ap₂}
+use mathlib.Core.Path.{_≡_, refl, sym, ap, ap₂, _∙_}
 use Prim.Native.Nat.{ℕ, zero, suc, _-_, _≤_, _<_}
 use native.Mathlib.Omega.{arith}
 use mathlib.Core.Bool.{true, false, _&&_, and-eq-true-iff}
@@ -7,13 +7,17 @@ use mathlib.Core.List.{List, [], _∷_, _++_, List·Memᴰ, List·Memᴰ·head, 
 use mathlib.Core.Logic.{⊎-elim}
 use lib.ListN.{length, take, drop, getD, replicate, length-take, length-drop, take-append-drop}
 use lib.Dec.{leb}
-use lib.Seq.{take-append-seam}
+use lib.Seq.{take-append-seam, ext-getD}
 use borrow.Author.Tests.{leb-true, le-leb}
 use Rattle.space.specs.declared.config.Config.{Config}
 use Rattle.space.specs.declared.space.Space.{Space}
 use Rattle.space.specs.Configs.{sound}
 use Rattle.space.specs.Laws.{TidyFormed}
-use Rattle.space.specs.Spaces.{held, spaceOf, placeSound, placesFrom, bounded, wellFormed, Entries, Typed}
+use Rattle.space.specs.Bounds.{tablePlaces}
+use Rattle.space.specs.Spaces.{held, spaceOf, placeSound, placesFrom, tableSound, bounded, wellFormed, Entries, Typed}
+use Rattle.space.specs.Tables.{emptyTable, tableOf, tabled, sameTable}
+use Rattle.space.proofs.TableLaws.{empty-length, table-length}
+use Rattle.space.proofs.TableSteps.{same-itself, same-rule}
 use Rattle.tuple.specs.declared.field.Tuple.{Tuple}
 use Rattle.tuple.specs.Faults.{isEntry, isBlank, placeBlank, restFrom, restBlank}
 use Rattle.tuple.specs.Bounds.{capacity, places}
@@ -83,29 +87,38 @@ places-sound n (tuple ∷ tuples) entries =
 -- ---- the tuples held, and the space of them
 
 -- what the tuples of a well-formed space are
-pub record Lawful (tuples : List Tuple) : Type 0 where
+pub record Lawful (config : Config) (tuples : List Tuple) : Type 0 where
   pub few : length tuples ≤ capacity
   pub entries : Entries tuples
+  pub table : tabled config tuples ≡ true
 
 pub held-of : (config : Config) (tuples : List Tuple) → held (spaceOf config tuples) ≡ tuples
 held-of config tuples = take-append-seam tuples (replicate (capacity - length tuples) blankTuple)
 
-pub formed-of : (config : Config) (tuples : List Tuple) → sound config ≡ true → Lawful tuples → wellFormed (spaceOf config tuples) ≡ true
-unfolding wellFormed bounded
+pub formed-of : (config : Config) (tuples : List Tuple) → sound config ≡ true → Lawful config tuples → wellFormed (spaceOf config tuples) ≡ true
+unfolding wellFormed bounded tableSound
 formed-of config tuples s lawful =
     let within : sound config && leb (length tuples) capacity ≡ true = and-eq-true-iff _ _ .1 (s, le-leb (length tuples) capacity (lawful .few)) in
-    and-eq-true-iff _ _ .1 (within, places-sound (capacity - length tuples) tuples (lawful .entries))
+    let places = places-sound (capacity - length tuples) tuples (lawful .entries) in
+    rw (within, places, held-of config tuples, lawful .table) (same-itself (tableOf config tuples))
 
 module _ (space : Space) (formed : wellFormed space ≡ true) where
   tests : (sound (space .config) ≡ true) × (space .count ≤ capacity) × (placesFrom (space .count) (space .tuples) ≡ true)
-  unfolding wellFormed bounded
+      × (tabled (space .config) (held space) ≡ true) × (sameTable (space .table) (tableOf (space .config) (held space)) ≡ true)
+  unfolding wellFormed bounded tableSound
   tests =
-      let places = and-eq-true-iff _ _ .0 formed in
+      let parts = and-eq-true-iff _ _ .0 formed in
+      let places = and-eq-true-iff _ _ .0 (parts .0) in
       let few = and-eq-true-iff _ _ .0 (places .0) in
-      (few .0, leb-true (space .count) capacity (few .1), places .1)
+      let table = and-eq-true-iff _ _ .0 (parts .1) in
+      (few .0, leb-true (space .count) capacity (few .1), places .1, table .0, table .1)
 
   pub formed-sound : sound (space .config) ≡ true
   formed-sound = tests .0
+
+  pub formed-bounded : bounded space ≡ true
+  unfolding bounded
+  formed-bounded = rw (tests .0, le-leb (space .count) capacity (tests .1))
 
   pub formed-few : space .count ≤ capacity
   formed-few = tests .1
@@ -113,8 +126,19 @@ module _ (space : Space) (formed : wellFormed space ≡ true) where
   pub formed-places : placesFrom (space .count) (space .tuples) ≡ true
   formed-places = tests .2
 
-  pub held-lawful : Lawful (held space)
-  held-lawful = record { few = simp length-take (omega (arith, tests .1)); entries = used-places (space .count) (space .tuples) (tests .2) .0 }
+  pub formed-tabled : tabled (space .config) (held space) ≡ true
+  formed-tabled = tests .3
+
+  pub formed-table : (i : ℕ) → i < tablePlaces → getD (space .table) i 0 ≡ getD (tableOf (space .config) (held space)) i 0
+  formed-table i below = same-rule (space .table) (tableOf (space .config) (held space)) .0 (tests .4) i below
+
+  pub held-lawful : Lawful (space .config) (held space)
+  held-lawful =
+      record {
+        few = simp length-take (omega (arith, tests .1));
+        entries = used-places (space .count) (space .tuples) (tests .2) .0;
+        table = formed-tabled;
+      }
 
   pub formed-same : Typed space → spaceOf (space .config) (held space) ≡ space
   formed-same typed =
@@ -124,7 +148,10 @@ module _ (space : Space) (formed : wellFormed space ≡ true) where
       let blank = blank-tuples behind (λ tuple m. typed .fields tuple (mem-drop (space .count) (space .tuples) m)) (used-places (space .count) (space .tuples) (tests .2) .1) in
       let whole : held space ++ replicate (capacity - length (held space)) blankTuple ≡ space .tuples =
       rw (left, ← blank) (take-append-drop (space .count) (space .tuples)) in
-      ap₂ (λ (n : ℕ) (l : List Tuple). record { config = space .config; count = n; tuples = l }) counted whole
+      let long = table-length (space .config) emptyTable (held space) ∙ empty-length (space .config) in
+      let table = ext-getD 0 (tableOf (space .config) (held space)) (space .table) (long ∙ sym (typed .table)) (λ i below. sym (formed-table i (omega (arith, below, long)))) in
+      ap₂ (λ (n : ℕ) (l : List Tuple). record { config = space .config; count = n; tuples = l; table = tableOf (space .config) (held space) }) counted whole
+      ∙ ap (λ (l : List ℕ). record { config = space .config; count = space .count; tuples = space .tuples; table = l }) table
 
 pub tidy-formed : TidyFormed
 tidy-formed space typed formed = formed-same space formed typed

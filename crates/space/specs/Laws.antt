@@ -17,6 +17,7 @@ use Rattle.space.specs.Lists.{listedProcess, isListTuple, positionOf, se
 use Rattle.space.specs.Members.{Member, within, every, counted}
 use Rattle.space.specs.Proposals.{offered, decidable, proposed, backers, crowded, Placed, Proposed}
 use Rattle.space.specs.Spaces.{wellFormed, Typed, Tidy}
+use Rattle.space.specs.TableLaws.{Tabled}
 use Rattle.tuple.specs.declared.field.Tuple.{Tuple}
 use Rattle.tuple.specs.declared.offset.Offset.{Offset}
 use Rattle.tuple.specs.declared.offset.Offset.the-variants.{Bottom, Hundredths}
@@ -160,12 +161,13 @@ AnnouncedRules = (tuples : List Tuple) (process : ℕ) → AnnouncedRule tuples 
 
 -- ---- spaces
 
--- a sound configuration, at most 256 tuples, an entry at each used place, and a blank tuple at each other
+-- a sound configuration, at most 256 tuples, an entry at each used place, a blank tuple at each other, and the table of these tuples
 pub record Formed (space : Space) : Type 0 where
   pub config : sound (space .config) ≡ true
   pub few : space .count ≤ 256
   pub used : (i : ℕ) → i < space .count → isEntry (getD (space .tuples) i blankTuple) ≡ true
   pub unused : (i : ℕ) → space .count ≤ i → i < 256 → getD (space .tuples) i blankTuple ≡ blankTuple
+  pub table : Tabled space
 
 abbrev pub WellFormedRule : Type 0
 WellFormedRule = (space : Space) → Typed space → (wellFormed space ≡ true) ↔ Formed space

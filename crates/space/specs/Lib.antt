@@ -5,6 +5,9 @@ pub mod Laws
 pub mod Lists
 pub mod Members
 pub mod Proposals
+pub mod Questions
 pub mod Shapes
 pub mod Spaces
+pub mod TableLaws
+pub mod Tables
 pub mod WordLaws

@@ -9,7 +9,9 @@ use Rattle.space.specs.declared.config.Config.{Config}
 use Rattle.space.specs.declared.space.Opening.the-variants.{Stands, Unopened}
 use Rattle.space.specs.declared.space.Opened.{Opened}
 use Rattle.space.specs.declared.space.Space.{Space}
+use Rattle.space.specs.Bounds.{tablePlaces}
 use Rattle.space.specs.Configs.{sound, blankConfig}
+use Rattle.space.specs.Tables.{tableOf, tabled, sameTable}
 use Rattle.tuple.specs.declared.field.Tuple.{Tuple}
 use Rattle.tuple.specs.Faults.{isEntry, restBlank}
 use Rattle.tuple.specs.Bounds.{places, capacity}
@@ -20,9 +22,15 @@ use Rattle.tuple.specs.Refusals.{refusal}
 abbrev pub held : Space → List Tuple
 held space = take (space .count) (space .tuples)
 
--- the space of a configuration that holds these tuples: blanks stand behind them
+-- the space of a configuration that holds these tuples: blanks stand behind them, and the table is theirs
 abbrev pub spaceOf : Config → List Tuple → Space
-spaceOf config tuples = record { config = config; count = length tuples; tuples = tuples ++ replicate (capacity - length tuples) blankTuple }
+spaceOf config tuples =
+    record {
+      config = config;
+      count = length tuples;
+      tuples = tuples ++ replicate (capacity - length tuples) blankTuple;
+      table = tableOf config tuples;
+    }
 
 -- a used place holds an entry within its kinds' ranges, and all of another is zero
 unfoldable pub placeSound : Tuple → Bool → Bool
@@ -41,9 +49,13 @@ isBounded config count = sound config && leb count capacity
 unfoldable pub bounded : Space → Bool
 bounded space = isBounded (space .config) (space .count)
 
--- beside that, each tuple held is an entry within its kinds' ranges, and unused places are zero
+-- the tuples held have a table, and it is the space's
+unfoldable pub tableSound : Space → Bool
+tableSound space = tabled (space .config) (held space) && sameTable (space .table) (tableOf (space .config) (held space))
+
+-- beside that, each tuple held is an entry within its kinds' ranges, unused places are zero, and the table is that of the tuples
 unfoldable pub wellFormed : Space → Bool
-wellFormed space = bounded space && placesFrom (space .count) (space .tuples)
+wellFormed space = bounded space && placesFrom (space .count) (space .tuples) && tableSound space
 
 -- ---- a fresh space
 
@@ -54,10 +66,11 @@ freshOf config =
 
 -- ---- what the laws ask of a space
 
--- what the struct's types say of it: 256 places, each a tuple of six
+-- what the struct's types say of it: 256 places, each a tuple of six, and a table of 248
 pub record Typed (space : Space) : Type 0 where
   pub tuples : length (space .tuples) ≡ capacity
   pub fields : (tuple : Tuple) → List·Memᴰ tuple (space .tuples) → length (tuple .fields) ≡ places
+  pub table : length (space .table) ≡ tablePlaces
 
 -- it is the one of the tuples it holds: a blank tuple stands at each other place
 abbrev pub Tidy : Space → Type 0

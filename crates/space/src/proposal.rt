@@ -67,7 +67,7 @@ pub fn decidable(config: Config, code: u64) -> bool
     }
 }
 
-fn is_sought(config: Config, sought: Sought, code: u64) -> bool
+pub(crate) fn is_sought(config: Config, sought: Sought, code: u64) -> bool
     ensures { λ r. ⌜ r ≡ isSought config sought code ⌝ }
 {
     match sought {

@@ -1,10 +1,16 @@
 // A space: its configuration and its tuples, oldest first, with blanks behind them.
 ghost use mathlib.Core.Path.{_≡_};
 ghost use Prim.Native.Nat.{_≤_};
+ghost use mathlib.Core.Bool.{cond};
 ghost use mathlib.Core.List.{[]};
-ghost use Rattle.space.specs.Spaces.{spaceOf, placesFrom, isBounded, wellFormed, freshOf};
+ghost use Rattle.space.specs.Configs.{hasProposals};
+ghost use Rattle.space.specs.Spaces.{spaceOf, placesFrom, tableSound, isBounded, wellFormed, freshOf};
 ghost use Rattle.tuple.specs.Bounds.{capacity};
+use crate::bounds::PLACES;
 use crate::config::Config;
+use crate::table::enter;
+use crate::table::fits_table;
+use crate::table::same_table;
 use tuple::Refusal;
 use tuple::TUPLES;
 use tuple::Tuple;
@@ -14,6 +20,8 @@ pub struct Space {
     pub config: Config,
     pub count: usize,
     pub tuples: [Tuple; TUPLES],
+    // What is proposed, by round and process, under policies 2 and 3: the code at 31 * round + (process - 1), 0 for none.
+    pub table: [u64; PLACES],
 }
 
 // Whether a fresh space stands.
@@ -52,6 +60,7 @@ fn empty(config: Config) -> Space
         config,
         count: 0,
         tuples: [Tuple::blank(); TUPLES],
+        table: [0; PLACES],
     }
 }
 
@@ -63,7 +72,10 @@ impl Space {
         if !is_bounded(self.config, self.count) {
             return false;
         }
-        places_sound(self)
+        if !places_sound(self) {
+            return false;
+        }
+        table_sound(self)
     }
 }
 
@@ -100,4 +112,31 @@ fn places_sound(space: Space) -> bool
         i += 1;
     }
     true
+}
+
+// Whether the tuples held have a table, and it is the space's.
+fn table_sound(space: Space) -> bool
+    requires { ⌜ space .count ≤ capacity ⌝ }
+    ensures { λ r. ⌜ r ≡ tableSound space ⌝ }
+{
+    let config = space.config;
+    let count = count_tabled(config, space.count);
+    let mut table = [0u64; PLACES];
+    let mut i = 0;
+    while i < count {
+        let tuple = space.tuples[i];
+        if !fits_table(config, &table, tuple) {
+            return false;
+        }
+        enter(config, &mut table, tuple);
+        i += 1;
+    }
+    same_table(&space.table, &table)
+}
+
+// How many tuples have to be looked at: none where the policy does not rest on proposals.
+fn count_tabled(config: Config, count: usize) -> usize
+    ensures { λ r. ⌜ r ≡ cond (hasProposals config) count 0 ⌝ }
+{
+    if config.has_proposals() { count } else { 0 }
 }

@@ -1,11 +1,14 @@
 -- `calls::carry_out_unchecked` meets its contract: whether there is room, or a tuple at the place, decides. The loop's invariant: without the place before the
 -- loop's, the array is the first one without the tuple.
-use Prim.Native.Nat.{_-_, _≤_, _<_}
+use Prim.Native.Nat.{ℕ, _+_, _-_, _≤_, _<_}
 use mathlib.Core.Path.{sym, ap, _∙_}
 use native.Mathlib.Omega.{arith}
 use mathlib.Core.Bool.{and-eq-true-iff}
+use mathlib.Core.List.{List}
 use lib.Dec.{leb, ltb}
+use lib.ListN.{set}
 use borrow.Author.Tests.{lt-ltb, le-ltb, leb-true, ltb-true}
+use Rattle.space.specs.declared.space.Space.{Space}
 use Rattle.space.proofs.Lengths.{full}
 use Rattle.tuple.specs.Bounds.{capacity}
 use Rattle.calls.specs.Changes.{carriedOut}
@@ -34,6 +37,9 @@ element-set-from-entry c = search needs
 
 add-next : tie.Need-add-next Inv-loop μ-loop
 add-next c = search needs
+
+enter-requires : tie.Need-enter-requires Inv-loop μ-loop
+enter-requires c κs = search needs
 
 enum-known-change : tie.Need-enum-known-change Inv-loop μ-loop
 enum-known-change c = search needs
@@ -90,11 +96,11 @@ loop-again c =
 blank-requires : tie.Need-blank-requires Inv-loop μ-loop
 blank-requires c κs = search needs
 
-sub-t23 : tie.Need-sub-t23 Inv-loop μ-loop
-sub-t23 c = omega (arith, held (c .before .before .before))
+sub-t26 : tie.Need-sub-t26 Inv-loop μ-loop
+sub-t26 c = omega (arith, held (c .before .before .before))
 
-mul-t24 : tie.Need-mul-t24 Inv-loop μ-loop
-mul-t24 c = omega (arith, held (c .before .before .before))
+mul-t27 : tie.Need-mul-t27 Inv-loop μ-loop
+mul-t27 c = omega (arith, held (c .before .before .before))
 
 element-set-from-next : tie.Need-element-set-from-next Inv-loop μ-loop
 element-set-from-next c = omega (arith, held (c .before .before .before))
@@ -111,9 +117,12 @@ returns c =
 returns-2 : tie.Need-returns-2 Inv-loop μ-loop
 unfolding carriedOut
 returns-2 c =
-    let t = c .before in
+    let i = c .before .before .before in
+    let t = i .before in
     let a = t .before .before .args in
-    sym (ap (carriedOut (a .space) (a .entry)) (t .enum-told2 .given .1) ∙ rw (lt-ltb (a .space .count) capacity (c .if1 .taken)))
+    let appended : List ℕ → Space = λ table. record { config = a .space .config; count = a .space .count + 1; tuples = set (a .space .tuples) (a .space .count) (a .entry); table = table } in
+    ap appended (c .enter .ensures)
+    ∙ sym (ap (carriedOut (a .space) (a .entry)) (t .enum-told2 .given .1) ∙ rw (lt-ltb (a .space .count) capacity (i .if1 .taken)))
 
 returns-3 : tie.Need-returns-3 Inv-loop μ-loop
 unfolding carriedOut
@@ -150,6 +159,7 @@ carry-out-unchecked-spec =
     mul-entry
     element-set-from-entry
     add-next
+    enter-requires
     enum-known-change
     is-held-requires
     add-i
@@ -163,8 +173,8 @@ carry-out-unchecked-spec =
     loop-less
     loop-again
     blank-requires
-    sub-t23
-    mul-t24
+    sub-t26
+    mul-t27
     element-set-from-next
     sub-next
     returns

@@ -12,6 +12,7 @@ use Rattle.calls.specs.Turns.{judged, carriedBy, applied}
 use Rattle.space.specs.declared.space.Space.{Space}
 use Rattle.space.specs.Spaces.{wellFormed}
 use Rattle.tuple.specs.Refusals.{refusal}
+use Rattle.calls.proofs.FoundLaws.{found-tested}
 use Rattle.calls.proofs.turn.apply.Statement.{statement}
 use Rattle.calls.proofs.turn.apply.Tie as tie
 
@@ -46,7 +47,7 @@ returns c =
     let j = c .before .before .before .before in
     let a = j .before .before .args in
     sym (ap {B = Applied} (λ (change : Change). record { reply = j .if1 .effect .reply; space = carriedOut (a .space) (a .call .entry) change }) (c .enum-told .given .1))
-    ∙ ap (carriedBy (a .space) (a .call)) (tested j)
+    ∙ ap (carriedBy (a .space) (a .call)) (tested j ∙ found-tested (a .space) (a .call))
 
 returns-2 : tie.Need-returns-2
 unfolding applied
@@ -54,7 +55,7 @@ returns-2 c =
     let j = c .before .before .before .before in
     let a = j .before .before .args in
     ap {B = Applied} (λ (space : Space). record { reply = j .if1 .effect .reply; space = space }) (c .carry-out-unchecked .ensures)
-    ∙ ap (carriedBy (a .space) (a .call)) (tested j)
+    ∙ ap (carriedBy (a .space) (a .call)) (tested j ∙ found-tested (a .space) (a .call))
 
 pub apply-spec : {M : Type 1} → statement M
 apply-spec =

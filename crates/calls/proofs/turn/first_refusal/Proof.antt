@@ -15,14 +15,14 @@ use Rattle.calls.proofs.turn.first_refusal.Tie as tie
 -- by the call's fault, and what is left behind it
 abbrev by : tie.Start → Fault → Verdict
 by c fault =
-    let space = c .args .space in
+    let space = c .args .t1 in
     let call = c .args .call in
     behindFault fault (demand (known (space .config) (call .process)) (refusal 6) (verdict space call))
 
 abbrev begun : tie.After-fault → tie.Start
 begun c = c .before .before
 
-faulted : (c : tie.After-fault) → let a = begun c .args in firstRefusal (a .space) (a .call) ≡ by (begun c) (c .fault .result)
+faulted : (c : tie.After-fault) → let a = begun c .args in firstRefusal (a .t1 .config) (a .call) (verdict (a .t1) (a .call)) ≡ by (begun c) (c .fault .result)
 unfolding firstRefusal
 faulted c = ap (by (begun c)) (sym (c .fault .ensures))
 
@@ -30,8 +30,8 @@ faulted c = ap (by (begun c)) (sym (c .fault .ensures))
 abbrev met : tie.After-enum-told → tie.After-fault
 met c = c .before .before
 
-faultless : (c : tie.After-enum-told) → let s = begun (met c) in firstRefusal (s .args .space) (s .args .call)
-    ≡ demand (known (s .args .space .config) (s .args .call .process)) (refusal 6) (verdict (s .args .space) (s .args .call))
+faultless : (c : tie.After-enum-told) → let s = begun (met c) in firstRefusal (s .args .t1 .config) (s .args .call) (verdict (s .args .t1) (s .args .call))
+    ≡ demand (known (s .args .t1 .config) (s .args .call .process)) (refusal 6) (verdict (s .args .t1) (s .args .call))
 faultless c = faulted (met c) ∙ ap (by (begun (met c))) (c .enum-told .given .1)
 
 fault-requires : tie.Need-fault-requires
@@ -60,14 +60,33 @@ returns-2 c =
     let k = c .before in
     sym (faultless (k .before .before) ∙ rw (sym (k .knows .ensures) ∙ not-true _ (c .if1 .taken)))
 
-verdict-requires : tie.Need-verdict-requires
-verdict-requires c κs = search needs
+has-list-requires : tie.Need-has-list-requires
+has-list-requires c κs = search needs
+
+list-verdict-requires : tie.Need-list-verdict-requires
+list-verdict-requires c κs = search needs
 
 returns-3 : tie.Need-returns-3
+unfolding verdict
 returns-3 c =
-    let e = c .before in
+    let h = c .before .before in
+    let e = h .before in
     let k = e .before in
-    c .verdict .ensures ∙ sym (faultless (k .before .before) ∙ rw (sym (k .knows .ensures) ∙ not-false _ (e .if1 .left)))
+    c .list-verdict .ensures
+    ∙ sym (faultless (k .before .before) ∙ rw (sym (k .knows .ensures) ∙ not-false _ (e .if1 .left), sym (h .has-list .ensures) ∙ c .before .if2 .taken))
+
+table-verdict-requires : tie.Need-table-verdict-requires
+table-verdict-requires c κs = search needs
+
+returns-4 : tie.Need-returns-4
+unfolding verdict
+returns-4 c =
+    let n = c .before .before .before in
+    let h = n .before in
+    let e = h .before in
+    let k = e .before in
+    c .table-verdict .ensures
+    ∙ sym (faultless (k .before .before) ∙ rw (sym (k .knows .ensures) ∙ not-false _ (e .if1 .left), sym (h .has-list .ensures) ∙ n .if2 .left))
 
 pub first-refusal-spec : {M : Type 1} → statement M
 first-refusal-spec =
@@ -80,5 +99,8 @@ first-refusal-spec =
     cast-knows
     knows-requires
     returns-2
-    verdict-requires
-    returns-3)
+    has-list-requires
+    list-verdict-requires
+    returns-3
+    table-verdict-requires
+    returns-4)

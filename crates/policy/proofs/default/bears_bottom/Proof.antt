@@ -10,33 +10,33 @@ use Rattle.policy.proofs.default.bears_bottom.Statement.{statement}
 use Rattle.policy.proofs.default.bears_bottom.Tie as tie
 
 sub-if1 : tie.Need-sub-if1
-sub-if1 c = let range = sound-range (c .args .space .config) (c .pre) in omega (arith, range .2)
+sub-if1 c = let range = sound-range (c .args .config) (c .pre) in omega (arith, range .2)
 
 cast-if1 : tie.Need-cast-if1
-cast-if1 c = let range = sound-range (c .args .space .config) (c .pre) in record { fits = omega (arith, range .1, range .2) }
+cast-if1 c = let range = sound-range (c .args .config) (c .pre) in record { fits = omega (arith, range .1, range .2) }
 
 returns : tie.Need-returns
 unfolding bearsBottom
 returns c = rw (lt-leb _ _ (c .if1 .taken))
 
-every-proposed-requires : tie.Need-every-proposed-requires
-every-proposed-requires c κs = search needs
+every-in-requires : tie.Need-every-in-requires
+every-in-requires c κs = search needs
 
 returns-2 : tie.Need-returns-2
 unfolding bearsBottom
 returns-2 c =
     let e = c .before in
-    rw (le-leb _ _ (e .before .if1 .left), sym (e .every-proposed .ensures) ∙ not-true _ (c .if2 .taken))
+    rw (le-leb _ _ (e .before .if1 .left), sym (e .every-in .ensures) ∙ not-true _ (c .if2 .taken))
 
-crowded-requires : tie.Need-crowded-requires
-crowded-requires c κs = search needs
+crowded-in-requires : tie.Need-crowded-in-requires
+crowded-in-requires c κs = search needs
 
 returns-3 : tie.Need-returns-3
 unfolding bearsBottom
 returns-3 c =
     let e = c .before .before in
-    ap not (c .crowded .ensures)
-    ∙ sym (rw (le-leb _ _ (e .before .if1 .left), sym (e .every-proposed .ensures) ∙ not-false _ (c .before .if2 .left)))
+    ap not (c .crowded-in .ensures)
+    ∙ sym (rw (le-leb _ _ (e .before .if1 .left), sym (e .every-in .ensures) ∙ not-false _ (c .before .if2 .left)))
 
 pub bears-bottom-spec : {M : Type 1} → statement M
 bears-bottom-spec =
@@ -45,7 +45,7 @@ bears-bottom-spec =
     sub-if1
     cast-if1
     returns
-    every-proposed-requires
+    every-in-requires
     returns-2
-    crowded-requires
+    crowded-in-requires
     returns-3)

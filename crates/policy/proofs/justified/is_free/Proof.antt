@@ -12,13 +12,13 @@ element-copy-out-second c = search needs
 element-copy-out-third : tie.Need-element-copy-out-third
 element-copy-out-third c = search needs
 
-is-taken-requires : tie.Need-is-taken-requires
-is-taken-requires c κs = search needs
+taken-in-requires : tie.Need-taken-in-requires
+taken-in-requires c κs = search needs
 
 returns : tie.Need-returns
 unfolding isFree
-returns c = ap not (c .is-taken .ensures)
+returns c = ap not (c .taken-in .ensures)
 
 pub is-free-spec : {M : Type 1} → statement M
 is-free-spec =
-    tie.close (tie.spec element-copy-out-second element-copy-out-third is-taken-requires returns)
+    tie.close (tie.spec element-copy-out-second element-copy-out-third taken-in-requires returns)

@@ -27,7 +27,18 @@ places-sound-requires c κs = let s = c .before .before .args .self in leb-true 
 
 returns-2 : tie.Need-returns-2
 unfolding wellFormed
-returns-2 c = c .places-sound .ensures ∙ sym (rw (passed (c .before)))
+returns-2 c = rw (passed (c .before .before), sym (c .before .places-sound .ensures) ∙ not-true _ (c .if2 .taken))
+
+table-sound-requires : tie.Need-table-sound-requires
+unfolding bounded
+table-sound-requires c κs =
+    let s = c .before .before .before .before .args .self in leb-true (s .count) capacity (and-eq-true-iff (sound (s .config)) _ .0 (passed (c .before .before)) .1)
+
+returns-3 : tie.Need-returns-3
+unfolding wellFormed
+returns-3 c =
+    let p = c .before .before in
+    c .table-sound .ensures ∙ sym (rw (passed (p .before), sym (p .places-sound .ensures) ∙ not-false _ (c .before .if2 .left)))
 
 pub is-well-formed-spec : {M : Type 1} → statement M
-is-well-formed-spec = tie.close (tie.spec is-bounded-requires returns places-sound-requires returns-2)
+is-well-formed-spec = tie.close (tie.spec is-bounded-requires returns places-sound-requires returns-2 table-sound-requires returns-3)

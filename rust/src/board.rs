@@ -1,10 +1,11 @@
-//! The board: well-formedness, the four calls (01, "Calls", and 02, 2.8).
+//! The board: well-formedness, the four calls (01, "Calls", and 02, 2.8 and 2.9).
 
 use crate::config::Config;
 use crate::fields::Tuple;
 use crate::policy;
 use crate::records::{Call, Code};
 use crate::refusal::Refusal;
+use crate::table::{self, Table};
 
 /// Most tuples a board holds.
 pub const MOST_TUPLES: usize = 256;
@@ -64,19 +65,21 @@ impl From<Result<Answer, Refusal>> for Answer {
 }
 
 /// A board as a plain value that can hold anything: a list of tuples, oldest
-/// first, in the front places of `tuples`.
+/// first, in the front places of `tuples`, and the table of the proposals among
+/// them.
 #[derive(Clone, Debug, PartialEq, Eq)]
 pub struct Board {
     pub config: Config,
     pub count: usize,
     pub tuples: [Tuple; MOST_TUPLES],
+    pub table: Table,
 }
 
 impl Board {
     /// An empty board with this set-up, if it is sound.
     pub fn fresh(config: Config) -> Result<Board, Refusal> {
         config.check()?;
-        Ok(Board { config, count: 0, tuples: [Tuple::BLANK; MOST_TUPLES] })
+        Ok(Board { config, count: 0, tuples: [Tuple::BLANK; MOST_TUPLES], table: table::EMPTY })
     }
 
     /// The tuples held, oldest first.
@@ -85,12 +88,14 @@ impl Board {
     }
 
     /// Refused 1 unless the board is well formed: a sound set-up, at most 256
-    /// tuples, each an entry within its kinds' ranges, and unused places zero.
+    /// tuples, each an entry within its kinds' ranges, unused places zero, and
+    /// the table that of the tuples held.
     pub fn check(&self) -> Result<(), Refusal> {
         self.config.check()?;
         let well_formed = self.count <= MOST_TUPLES
             && self.held().iter().all(Tuple::is_entry)
-            && self.tuples[self.held().len()..].iter().all(|place| *place == Tuple::BLANK);
+            && self.tuples[self.held().len()..].iter().all(|place| *place == Tuple::BLANK)
+            && table::of(&self.config, self.held()) == Some(self.table);
         well_formed.then_some(()).ok_or(Refusal::Unsound)
     }
 
@@ -109,6 +114,11 @@ impl Board {
             return Err(Refusal::Seat);
         }
         policy::check(&self.config, self.held(), code, call)?;
+        self.carry_out(code, call)
+    }
+
+    /// Carries out a sound call that the policy permits.
+    pub(crate) fn carry_out(&mut self, code: Code, call: &Call) -> Result<Answer, Refusal> {
         match code {
             Code::Out => self.append(&call.entry).map(|()| Answer::DONE),
             Code::Rdp => Ok(match self.oldest(&call.template) {
@@ -131,15 +141,20 @@ impl Board {
         self.held().iter().position(|tuple| template.matches(tuple))
     }
 
-    /// Appends an entry, or refuses 8.
+    /// Appends an entry, which the table has from then on if it is due there, or
+    /// refuses 8.
     fn append(&mut self, entry: &Tuple) -> Result<(), Refusal> {
         let place = self.tuples.get_mut(self.count).ok_or(Refusal::Full)?;
         *place = *entry;
         self.count += 1;
+        if let Some((place, offset)) = table::due(&self.config, entry) {
+            self.table[place] = offset;
+        }
         Ok(())
     }
 
-    /// Takes off the tuple at this place, the rest keeping their order.
+    /// Takes off the tuple at this place, the rest keeping their order. It is not
+    /// in the table, for policies 2 and 3 permit no inp.
     fn take(&mut self, place: usize) -> Tuple {
         let taken = self.tuples[place];
         self.tuples.copy_within(place + 1..self.count, place);
@@ -150,10 +165,28 @@ impl Board {
 }
 
 #[cfg(test)]
+pub(crate) mod making {
+    use super::*;
+
+    /// A board with these tuples and their table, as if handed in; of two that
+    /// are due at one place the table has the later.
+    pub(crate) fn with(config: Config, tuples: &[Tuple]) -> Board {
+        let mut board = Board::fresh(config).unwrap();
+        board.count = tuples.len();
+        board.tuples[..tuples.len()].copy_from_slice(tuples);
+        for (place, offset) in tuples.iter().filter_map(|tuple| table::due(&config, tuple)) {
+            board.table[place] = offset;
+        }
+        board
+    }
+}
+
+#[cfg(test)]
 mod tests {
+    use super::making::with;
     use super::*;
     use crate::config::making::{config, strong};
-    use crate::fields::{Field, Kind};
+    use crate::fields::{Field, Kind, MOST_SEATS};
     use Refusal::*;
 
     fn bare() -> Board {
@@ -250,10 +283,9 @@ mod tests {
             |process, seats| Call::cas(process, Tuple::decision_template(0), Tuple::decision(0, 3, seats));
         for config in [config(4, 1, 2), strong(4, 1, 2)] {
             // A full board, on which seats 1 and 2 have proposed.
-            let mut board = Board::fresh(config).unwrap();
-            board.count = MOST_TUPLES;
-            board.tuples = [Tuple::proposal(0, 1, 3); MOST_TUPLES];
-            board.tuples[MOST_TUPLES - 1] = Tuple::proposal(0, 2, 3);
+            let mut tuples = [number(1); MOST_TUPLES];
+            (tuples[0], tuples[MOST_TUPLES - 1]) = (Tuple::proposal(0, 1, 3), Tuple::proposal(0, 2, 3));
+            let mut board = with(config, &tuples);
             assert_eq!(obey(&mut board, out(1, 1)), Err(Full));
             assert_eq!(obey(&mut board, out(1, 0)), Err(Second), "12 before 8");
             assert_eq!(obey(&mut board, out(2, 0)), Err(Denied));
@@ -301,6 +333,147 @@ mod tests {
             let mut board = board.clone();
             spoil(&mut board);
             assert_eq!(obey(&mut board, good), Err(Unsound));
+        }
+    }
+
+    /// Four seats under each policy.
+    fn every_policy() -> [Config; 6] {
+        [0, 1, 2, 3, 4, 5].map(|policy| if policy == 3 { strong(4, 1, 2) } else { config(4, 1, policy) })
+    }
+
+    /// What 02 says of boards with these tuples, whatever stands in their table:
+    /// under policies 2 and 3 they are well formed with this table alone, or with
+    /// none; under the others with an empty one alone.
+    fn tables(configs: &[Config], tuples: &[Tuple], expected: Option<&[(u64, u64, u64)]>) {
+        for config in configs {
+            let mut board = with(*config, tuples);
+            assert_eq!(board.check().is_ok(), expected.is_some(), "{tuples:?} under {config:?}");
+            let Some(expected) = expected else {
+                // Nor with the table of any part of them.
+                for place in 0..table::PLACES {
+                    let mut other = board.clone();
+                    other.table[place] = 0;
+                    assert_eq!(other.check(), Err(Unsound), "{tuples:?} under {config:?}");
+                }
+                board.table = table::EMPTY;
+                assert_eq!(board.check(), Err(Unsound), "{tuples:?} under {config:?}");
+                continue;
+            };
+            let mut table = table::EMPTY;
+            for (round, seat, offset) in expected {
+                table[(31 * round + seat - 1) as usize] = *offset;
+            }
+            assert_eq!(board.table, table);
+            for place in 0..table.len() {
+                for other in [0, 1, 2, 3, 5, 200_001, u64::MAX].into_iter().filter(|w| *w != table[place]) {
+                    board.table[place] = other;
+                    assert_eq!(board.check(), Err(Unsound), "{other} at {place} under {config:?}");
+                }
+                board.table[place] = table[place];
+            }
+            assert_eq!(board.check(), Ok(()));
+        }
+    }
+
+    #[test]
+    fn the_table_of_a_board_handed_in() {
+        let [bare, weak, default, choice, list, waiting] = every_policy();
+        let both = [default, choice];
+        let proposal = Tuple::proposal;
+        tables(&every_policy(), &[], Some(&[]));
+        let two = [proposal(0, 1, 3), proposal(7, 4, 1)];
+        tables(&both, &two, Some(&[(0, 1, 3), (7, 4, 1)]));
+        tables(&[bare, weak, list, waiting], &two, Some(&[]));
+        // The same seat in all rounds, and all seats in a round.
+        let rounds = [0, 1, 2, 3, 4, 5, 6, 7];
+        tables(&both, &rounds.map(|r| proposal(r, 2, 3)), Some(&rounds.map(|r| (r, 2, 3))));
+        let seats = [1, 2, 3, 4];
+        tables(&both, &seats.map(|q| proposal(5, q, 1)), Some(&seats.map(|q| (5, q, 1))));
+        // Two proposals for one place, equal or not.
+        for twice in [[proposal(0, 1, 3), proposal(0, 1, 3)], [proposal(0, 1, 3), proposal(0, 1, 1)]] {
+            tables(&both, &twice, None);
+            tables(&both, &[twice[0], number(1), proposal(1, 1, 1), twice[1]], None);
+            tables(&[bare, weak, list, waiting], &twice, Some(&[]));
+        }
+        // The mark, and what is no choice: -1, 2, 100,000 and -100,000.
+        tables(&both, &[proposal(0, 1, 0)], None);
+        tables(&both, &[proposal(0, 1, 3), proposal(7, 4, 0)], None);
+        tables(&[bare, weak, list, waiting], &[proposal(0, 1, 0)], Some(&[]));
+        for offset in [2, 5, 200_000, 200_001] {
+            tables(&[default], &[proposal(3, 2, offset)], Some(&[(3, 2, offset)]));
+            tables(&[choice], &[proposal(3, 2, offset)], None);
+            tables(&[bare, weak, list, waiting], &[proposal(3, 2, offset)], Some(&[]));
+        }
+    }
+
+    #[test]
+    fn what_has_no_place_in_the_table() {
+        let last = Kind::Count.last();
+        let strangers = [0, 5, 31, 32, last].map(|seat| Tuple::proposal(0, seat, 3));
+        let late = [8, 9, last].map(|round| Tuple::proposal(round, 1, 3));
+        let mut other = [Tuple::proposal(0, 1, 3); 4];
+        other[0].fields[0].value = 2;
+        other[1].fields[3] = Field::given(Kind::Count, 3);
+        other[2] = Tuple::of(&other[2].fields[..3]);
+        other[3].fields[4] = Field::given(Kind::Word, 0);
+        other[3].count = 5;
+        let decisions = [Tuple::decision(0, 0, 0), Tuple::decision(0, 3, Kind::Seats.last())];
+        // Twice, of the mark and of any offset: nothing is asked of them.
+        let marks: Vec<Tuple> = (strangers.iter().chain(&late))
+            .map(|tuple| {
+                let mut mark = *tuple;
+                mark.fields[3].value = 0;
+                mark
+            })
+            .collect();
+        let tuples = [&strangers[..], &late, &other, &decisions, &marks].concat();
+        tables(&every_policy(), &[&tuples[..], &tuples].concat(), Some(&[]));
+        // Of 31 seats, 31 has a place, and 32 has none.
+        let config = config(MOST_SEATS, 10, 2);
+        tables(&[config], &strangers, Some(&[(0, 5, 3), (0, 31, 3)]));
+        assert_eq!(with(config, &strangers).table[30], 3);
+    }
+
+    #[test]
+    fn a_call_keeps_the_table() {
+        for config in every_policy() {
+            let mut board = Board::fresh(config).unwrap();
+            assert_eq!(board.table, [0; 248]);
+            let due = [2, 3].contains(&config.policy);
+            let out = |seat: u32, round, offset| Call::out(seat, Tuple::proposal(round, seat.into(), offset));
+            for (call, place) in [(out(1, 0, 3), 0), (out(4, 0, 1), 3), (out(2, 7, 1), 218)] {
+                let obeyed = obey(&mut board, call).is_ok();
+                assert_eq!(obeyed, config.policy == 0 || due);
+                assert_eq!(board.table[place], if due { call.entry.fields[3].value } else { 0 });
+            }
+            assert_eq!(board.table.iter().filter(|code| **code != 0).count(), if due { 3 } else { 0 });
+            let table = board.table;
+            // A refused call, a reading and a decision leave it.
+            for call in [out(1, 0, 1), out(2, 0, 0), out(5, 0, 3), out(3, 8, 3)] {
+                _ = obey(&mut board, call);
+                assert_eq!(board.table, table);
+            }
+            let template = Tuple::decision_template(0);
+            _ = obey(&mut board, out(2, 0, 3));
+            let table = board.table;
+            for call in [
+                Call::rdp(1, Tuple::proposal_template(0, 1)),
+                Call::inp(1, Tuple::proposal_template(0, 1)),
+                Call::cas(1, template, Tuple::decision(0, 3, 0b0011)),
+            ] {
+                _ = obey(&mut board, call);
+                assert_eq!(board.table, table);
+            }
+            assert_eq!(board.check(), Ok(()));
+        }
+    }
+
+    #[test]
+    fn a_full_board_keeps_its_table() {
+        for config in [config(4, 1, 2), strong(4, 1, 2)] {
+            let mut board = with(config, &[number(1); MOST_TUPLES]);
+            assert_eq!(obey(&mut board, Call::out(1, Tuple::proposal(0, 1, 3))), Err(Full));
+            assert_eq!(board.table, table::EMPTY);
         }
     }
 }

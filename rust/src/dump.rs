@@ -1,4 +1,4 @@
-//! A board written back as a script (02, 2.4 and 2.6 to 2.8).
+//! A board written back as a script (02, 2.4 and 2.6 to 2.9).
 
 use crate::board::{AnswerKind, Board, MOST_TUPLES};
 use crate::config::{Config, BARE, LIST, STRONG, WAIT_FREE, WEAK};
@@ -99,18 +99,12 @@ mod tests {
     use std::collections::HashSet;
 
     use super::*;
+    use crate::board::making::with;
     use crate::config::making::{config, strong};
     use crate::records::Reader;
     use crate::script::run;
+    use crate::table;
     use Refusal::*;
-
-    /// A board with these tuples, as if handed in.
-    fn with(config: Config, tuples: &[Tuple]) -> Board {
-        let mut board = Board::fresh(config).unwrap();
-        board.count = tuples.len();
-        board.tuples[..tuples.len()].copy_from_slice(tuples);
-        board
-    }
 
     /// (word 2, count round, offset).
     fn weak(round: u64, offset: u64) -> Tuple {
@@ -152,6 +146,10 @@ mod tests {
 
     fn refused(config: Config, tuples: &[Tuple]) {
         assert_eq!(script_of(&with(config, tuples)), Err(Unreached), "{config:?} {tuples:?}");
+    }
+
+    fn unsound(config: Config, tuples: &[Tuple]) {
+        assert_eq!(script_of(&with(config, tuples)), Err(Unsound), "{config:?} {tuples:?}");
     }
 
     /// The board in which the worked script of 01 ends.
@@ -229,7 +227,9 @@ mod tests {
             01 04 04 04 02 08 07 0E 11 04 04 02 08 07 0C 03 10 0A";
         assert_eq!(written(&with(strong(4, 1, 2), &decided)), hex(script));
         for offset in [0, 2, 4, 5, 200_001] {
-            refused(strong(4, 1, 2), &[Tuple::proposal(7, 1, offset)]);
+            unsound(strong(4, 1, 2), &[Tuple::proposal(7, 1, offset)]);
+            refused(strong(4, 1, 2), &[Tuple::proposal(8, 1, offset)]);
+            refused(strong(4, 1, 2), &[Tuple::proposal(7, 5, offset)]);
             refused(strong(4, 1, 2), &[proposals[0], proposals[1], Tuple::decision(7, offset, 0b1010)]);
         }
         written(&with(strong(5, 1, 3), &[Tuple::proposal(7, 1, 5)]));
@@ -351,11 +351,13 @@ mod tests {
         // Two decisions of a round, equal or not.
         refused(four, &[first, third, decision, decision]);
         refused(four, &[first, third, decision, second, Tuple::decision(0, 0, 0b0111)]);
-        // Two proposals of a seat in a round, equal or not.
-        refused(four, &[first, first]);
-        refused(four, &[first, second, Tuple::proposal(0, 1, 3)]);
+        // Two proposals of a seat in a round, equal or not, and the mark: the board is not well formed.
+        unsound(four, &[first, first]);
+        unsound(four, &[first, second, Tuple::proposal(0, 1, 3)]);
+        unsound(four, &[Tuple::proposal(0, 1, 0)]);
+        unsound(four, &[decision, Tuple::proposal(0, 1, 0)]);
         written(&with(four, &[first, Tuple::proposal(1, 1, 0x50)]));
-        // A seat, a round, a mark or a set that nobody may propose or decide.
+        // A seat, a round or a set that nobody may propose or decide.
         for seat in [0, 5, 31, 4_294_967_295] {
             refused(four, &[Tuple::proposal(0, seat, 3)]);
         }
@@ -363,8 +365,8 @@ mod tests {
             refused(four, &[Tuple::proposal(round, 1, 3)]);
             let both = [Tuple::proposal(round, 1, 3), Tuple::proposal(round, 2, 3)];
             refused(four, &[both[0], both[1], Tuple::decision(round, 3, 0b0011)]);
+            refused(four, &[both[0], both[0], Tuple::proposal(round, 2, 0)]);
         }
-        refused(four, &[Tuple::proposal(0, 1, 0)]);
         refused(four, &[first, third, Tuple::decision(0, 0x50, 0b1_0101)]);
         // Any other tuple.
         refused(four, &[weak(0, 3)]);
@@ -386,6 +388,37 @@ mod tests {
     }
 
     #[test]
+    fn tables_that_are_not_the_boards() {
+        let worked = worked();
+        // 31 places for each round: the first three are those that have proposed.
+        assert_eq!(worked.table[..4], [0x50, 0x51, 0x50, 0]);
+        let spoilt: [fn(&mut Board); 8] = [
+            |board| board.table[0] = 0x51,
+            |board| board.table[1] = 0,
+            |board| board.table[3] = 0x50,
+            |board| board.table[4] = 0x50,
+            |board| board.table[31] = 0x50,
+            |board| board.table[247] = 1,
+            |board| board.table.swap(0, 1),
+            |board| board.table = table::EMPTY,
+        ];
+        for spoil in spoilt {
+            let mut board = worked.clone();
+            spoil(&mut board);
+            for room in [0, 53, 54, LONGEST_DUMP] {
+                assert_eq!(dump_into(&board, &mut vec![0xA5; room]), Err(Unsound));
+            }
+        }
+        for policy in [0, 1, 4, 5] {
+            for place in 0..table::PLACES {
+                let mut board = with(config(4, 1, policy), &[]);
+                board.table[place] = 1;
+                assert_eq!(script_of(&board), Err(Unsound), "1 before 15");
+            }
+        }
+    }
+
+    #[test]
     fn refusals_in_order() {
         let mut board = worked();
         board.tuples.swap(0, 3);
@@ -394,12 +427,13 @@ mod tests {
             assert_eq!(dump_into(&board, &mut buffer), Err(Unreached), "14 before 10");
             assert_eq!(buffer, vec![0xA5; room]);
         }
-        let spoilt: [fn(&mut Board); 5] = [
+        let spoilt: [fn(&mut Board); 6] = [
             |board| board.count = 3,
             |board| board.count = 5,
             |board| board.config.n = 3,
             |board| board.config.k = 2,
             |board| board.tuples[3].fields[5].value = 1,
+            |board| board.table[0] = 0,
         ];
         for spoil in spoilt {
             let mut board = board.clone();
@@ -495,12 +529,13 @@ mod tests {
         reached
     }
 
-    /// 14 comes for those boards of these tuples that no calls reach.
+    /// 14 comes for those boards of these tuples that no calls reach, or 1 where they are not well formed.
     fn refused_are_not_reached(config: Config, tuples: &[Tuple], most: usize) {
         let reached = reached(config, tuples, most);
         let (mut written, mut refused) = (0, 0);
         for held in all(tuples, most) {
-            let script = script_of(&with(config, &held));
+            let board = with(config, &held);
+            let script = script_of(&board);
             assert_eq!(script.is_ok(), reached.contains(&held), "{config:?} {held:?}");
             match script {
                 Ok(script) => {
@@ -508,8 +543,8 @@ mod tests {
                     written += 1;
                 }
                 Err(refusal) => {
-                    assert_eq!(refusal, Unreached);
-                    refused += 1;
+                    assert_eq!(refusal, if board.check().is_ok() { Unreached } else { Unsound });
+                    refused += usize::from(refusal == Unreached);
                 }
             }
         }

@@ -28,7 +28,7 @@ pub fn config(config: &Config) -> sys::Config {
 
 pub fn space(board: &Board) -> sys::Space {
     let tuples = board.tuples.each_ref().map(tuple);
-    sys::Space { config: config(&board.config), count: board.count, tuples }
+    sys::Space { config: config(&board.config), count: board.count, tuples, table: board.table }
 }
 
 pub fn reply(answer: &Answer) -> sys::Reply {

@@ -1,4 +1,4 @@
-//! The shared offset board of document 01 with requests 2.1 to 2.4 and 2.6 to 2.8
+//! The shared offset board of document 01 with requests 2.1 to 2.4 and 2.6 to 2.9
 //! of document 02, read independently and written plainly: safe Rust, std only.
 //! Records and matching lie below policies and board, which lie below the seat
 //! procedure and the program.
@@ -22,6 +22,8 @@ pub mod list;
 pub mod announcements;
 
 pub mod policy;
+
+pub mod table;
 
 pub mod board;
 

@@ -127,6 +127,7 @@ fn set(seats: impl Iterator<Item = u64>) -> u64 {
 #[cfg(test)]
 mod tests {
     use super::*;
+    use crate::board::making::with as filled;
     use crate::board::{Answer, Board};
     use crate::config::making;
     use crate::fields::PROPOSE;
@@ -134,6 +135,7 @@ mod tests {
     const DENIED: Result<Answer, Refusal> = Err(Refusal::Denied);
     const SECOND: Result<Answer, Refusal> = Err(Refusal::Second);
     const UNBORNE: Result<Answer, Refusal> = Err(Refusal::Unborne);
+    const UNSOUND: Result<Answer, Refusal> = Err(Refusal::Unsound);
 
     fn board(n: u64, t: u64, policy: u64) -> Board {
         Board::fresh(making::config(n, t, policy)).unwrap()
@@ -146,14 +148,12 @@ mod tests {
 
     /// A board under policy 2 with these tuples, as if handed in.
     fn with(n: u64, t: u64, tuples: &[Tuple]) -> Board {
-        filled(board(n, t, DEFAULT), tuples)
+        filled(making::config(n, t, DEFAULT), tuples)
     }
 
-    /// An empty board, filled with these tuples.
-    fn filled(mut board: Board, tuples: &[Tuple]) -> Board {
-        board.count = tuples.len();
-        board.tuples[..tuples.len()].copy_from_slice(tuples);
-        board
+    /// One under policy 3.
+    fn strong_with(n: u64, t: u64, k: u64, tuples: &[Tuple]) -> Board {
+        filled(making::strong(n, t, k), tuples)
     }
 
     fn propose(process: u32, round: u64, seat: u64, offset: u64) -> Call {
@@ -207,7 +207,7 @@ mod tests {
     #[test]
     fn under_the_other_policies_nothing_is_second_or_unborne() {
         let proposals = [Tuple::proposal(0, 1, 9), Tuple::proposal(0, 2, 9)];
-        let answer = |policy, call| filled(board(4, 1, policy), &proposals).call(&call);
+        let answer = |policy, call| filled(making::config(4, 1, policy), &proposals).call(&call);
         let second = propose(1, 0, 1, 9);
         assert_eq!(answer(BARE, second), Ok(Answer::DONE));
         assert_eq!(answer(WEAK, second), DENIED);
@@ -256,12 +256,13 @@ mod tests {
         let mut worded = Tuple::proposal(7, 1, 1);
         worded.fields[0].value = DECISION;
         assert_eq!(board.call(&Call::out(1, worded)), DENIED);
-        // A mark on a board handed in stands in the way too, and there is no round 8.
-        let mut board = with(4, 1, &[Tuple::proposal(0, 1, 0), Tuple::proposal(8, 1, 3)]);
-        assert_eq!(board.call(&propose(1, 0, 1, 3)), SECOND);
-        assert_eq!(board.call(&propose(1, 0, 1, 0)), DENIED);
+        // There is no round 8, and a mark on a board handed in is refused with it.
+        let mut board = with(4, 1, &[Tuple::proposal(8, 1, 3), Tuple::proposal(8, 1, 0)]);
         assert_eq!(board.call(&propose(1, 8, 1, 3)), DENIED);
         assert_eq!(board.call(&propose(1, 1, 1, 3)), Ok(Answer::DONE));
+        let mut board = with(4, 1, &[Tuple::proposal(0, 1, 0)]);
+        assert_eq!(board.call(&propose(1, 0, 1, 3)), UNSOUND);
+        assert_eq!(board.call(&propose(1, 1, 1, 3)), UNSOUND);
     }
 
     #[test]
@@ -391,26 +392,25 @@ mod tests {
 
     #[test]
     fn proposals_that_no_run_makes() {
-        // Seat 1 has two proposals, one of them twice; it counts once for each.
-        let mut tuples = vec![Tuple::proposal(0, 1, 9), Tuple::proposal(0, 1, 9), Tuple::proposal(0, 1, 7)];
+        // Those of seats that are none, and of a round that is none, do no harm, whatever they are and how often.
+        let strangers = [0, 5, 31, 4_294_967_295].map(|q| Tuple::proposal(0, q, 7));
+        let late = [1, 2, 3, 4].map(|q| Tuple::proposal(8, q, 7));
+        let mut tuples = [strangers, late, strangers, late].concat();
+        tuples.extend([(1, 9), (2, 9), (3, 7), (4, 5)].map(|(q, w)| Tuple::proposal(0, q, w)));
         let answer = |tuples: &[Tuple], call: Call| with(4, 1, tuples).call(&call);
-        assert_eq!(answer(&tuples, cas(0, 9, 0b0001)), UNBORNE);
-        assert_eq!(answer(&tuples, cas(0, 9, 0b0011)), UNBORNE, "2 has proposed nothing");
-        tuples.push(Tuple::proposal(0, 2, 9));
-        tuples.push(Tuple::proposal(0, 3, 5));
         assert_eq!(answer(&tuples, cas(0, 9, 0b0011)), Ok(Answer::INSERTED));
-        assert_eq!(answer(&tuples, cas(0, 7, 0b0001)), UNBORNE);
+        assert_eq!(answer(&tuples, cas(0, 7, 0b0100)), UNBORNE);
+        assert_eq!(answer(&tuples, cas(0, 7, 0b1_0100)), DENIED, "5 is above n");
+        assert_eq!(answer(&tuples, cas(0, 0, 0b1110)), Ok(Answer::INSERTED));
         assert_eq!(answer(&tuples, cas(0, 0, 0b0111)), UNBORNE, "1 and 2 have proposed 9");
-        tuples[3] = Tuple::proposal(0, 2, 8);
-        assert_eq!(answer(&tuples, cas(0, 0, 0b0111)), Ok(Answer::INSERTED));
-        tuples.push(Tuple::proposal(0, 3, 7));
-        assert_eq!(answer(&tuples, cas(0, 0, 0b0111)), UNBORNE, "1 and 3 have proposed 7");
-        tuples.push(Tuple::proposal(0, 4, 0));
-        assert_eq!(answer(&tuples, cas(0, 0, 0b1011)), UNBORNE, "a mark is no proposal");
-        // Seats that are none do no harm.
-        tuples.push(Tuple::proposal(0, 0, 7));
-        tuples.push(Tuple::proposal(0, 4_294_967_295, 7));
-        assert_eq!(answer(&tuples, cas(0, 7, 0b0101)), Ok(Answer::INSERTED));
+        assert_eq!(answer(&tuples, propose(1, 0, 1, 9)), SECOND);
+        // A seat's second one, equal or not, and a mark do: the board is refused.
+        for (seat, offset) in [(1, 9), (1, 7), (4, 7), (4, 0)] {
+            let second = [&tuples[..], &[Tuple::proposal(0, seat, offset)]].concat();
+            for call in [cas(0, 9, 0b0011), cas(0, 0, 0b1110), propose(1, 0, 1, 9), propose(1, 1, 1, 9)] {
+                assert_eq!(answer(&second, call), UNSOUND, "{seat} {offset}");
+            }
+        }
     }
 
     #[test]
@@ -447,20 +447,19 @@ mod tests {
                 assert_eq!(board.call(&propose(seat + 1, 7, seat.into(), again)), DENIED, "{again}");
             }
         }
-        // Whatever stands in its place, no choice included, a proposal is the second.
-        for offset in [0, 1, 2, 7, 200_001] {
-            let mut board = filled(strong(5, 1, 3), &[Tuple::proposal(0, 1, offset)]);
-            assert_eq!(board.call(&propose(1, 0, 1, 3)), SECOND, "{offset}");
-            assert_eq!(board.call(&propose(1, 0, 1, 0)), DENIED, "{offset}");
-            assert_eq!(board.call(&propose(1, 0, 1, 7)), DENIED, "{offset}");
-            assert_eq!(board.call(&propose(1, 1, 1, 3)), Ok(Answer::DONE));
+        // Where what is no choice, or the mark, stands on a board handed in, it is refused.
+        for offset in [0, 2, 7, 200_001] {
+            let mut board = strong_with(5, 1, 3, &[Tuple::proposal(0, 1, offset)]);
+            for call in [propose(1, 0, 1, 3), propose(1, 0, 1, 0), propose(1, 1, 1, 3)] {
+                assert_eq!(board.call(&call), UNSOUND, "{offset}");
+            }
         }
     }
 
     #[test]
     fn strong_decisions() {
         let proposals = [1, 3, 1, 5, 1].into_iter().zip(1..).map(|(w, q)| Tuple::proposal(0, q, w));
-        let fresh = filled(strong(5, 1, 3), &proposals.collect::<Vec<_>>());
+        let fresh = strong_with(5, 1, 3, &proposals.collect::<Vec<_>>());
         for seats in 0..1 << 6 {
             for offset in 0..9 {
                 let answer = fresh.clone().call(&cas(0, offset, seats));
@@ -492,12 +491,12 @@ mod tests {
 
     #[test]
     fn strong_proposals_that_no_run_makes() {
-        // Enough seats for each of the mark, -1 and 2, which are no choices among two; and for 1.
-        let tuples: Vec<Tuple> =
-            [0, 2, 5, 3].into_iter().flat_map(|w| (1..=4).map(move |q| Tuple::proposal(0, q, w))).collect();
+        // Enough seats for each of the mark, -1 and 2, which are no choices among two, where there is no such round; and for 1.
+        let late = [0, 2, 5].into_iter().flat_map(|w| (1..=4).map(move |q| Tuple::proposal(8, q, w)));
+        let tuples: Vec<Tuple> = late.chain((1..=4).map(|q| Tuple::proposal(0, q, 3))).collect();
         for seats in 0..=0b1111u64 {
             for offset in 0..8 {
-                let answer = filled(strong(4, 1, 2), &tuples).call(&cas(0, offset, seats));
+                let answer = strong_with(4, 1, 2, &tuples).call(&cas(0, offset, seats));
                 let expected = match offset {
                     3 if seats.count_ones() >= 2 => Ok(Answer::INSERTED),
                     1 | 3 => UNBORNE,
@@ -506,12 +505,12 @@ mod tests {
                 assert_eq!(answer, expected, "{offset} {seats}");
             }
         }
-        // A seat's two choices count once for each.
-        let tuples = [(1, 1), (1, 3), (2, 1), (3, 3)].map(|(q, w)| Tuple::proposal(0, q, w));
-        for (offset, seats) in [(1, 0b0011), (3, 0b0101)] {
-            let answer = filled(strong(4, 1, 2), &tuples).call(&cas(0, offset, seats));
-            assert_eq!(answer, Ok(Answer::INSERTED));
+        // In a round that is one, each of them makes the board ill formed, and so does a second choice.
+        let chosen = [(1, 1), (2, 1), (3, 3)].map(|(q, w)| Tuple::proposal(0, q, w));
+        assert_eq!(strong_with(4, 1, 2, &chosen).call(&cas(0, 1, 0b0011)), Ok(Answer::INSERTED));
+        for (seat, offset) in [(4, 0), (4, 2), (4, 5), (1, 1), (1, 3), (3, 1)] {
+            let tuples = [&chosen[..], &[Tuple::proposal(0, seat, offset)]].concat();
+            assert_eq!(strong_with(4, 1, 2, &tuples).call(&cas(0, 1, 0b0011)), UNSOUND, "{seat} {offset}");
         }
-        assert_eq!(filled(strong(4, 1, 2), &tuples[..2]).call(&cas(0, 1, 0b0001)), UNBORNE);
     }
 }

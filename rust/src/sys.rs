@@ -10,6 +10,7 @@ use std::mem::size_of;
 
 use crate::board::MOST_TUPLES;
 use crate::fields::{MOST_FIELDS, MOST_SEATS};
+use crate::table::Table;
 
 /// A length is below this; a refusal is this and its number.
 const REFUSED: u64 = 1 << 32;
@@ -74,6 +75,7 @@ crossing! {
         pub config: Config,
         pub count: usize,
         pub tuples: [Tuple; MOST_TUPLES],
+        pub table: Table,
     }
 
     /// 0 done, 1 none, 2 found, 3 inserted, 4 held, 5 refused; the refusal's number, else 0; the tuple, else blank.

@@ -1,5 +1,5 @@
-/* A client of the proved library: the worked script's text, its first call made by hand, its seven calls one by one, the board they leave as a script and
- * back, and a round that four seats settle. */
+/* A client of the proved library: the worked script's text, its first call made by hand, its seven calls one by one, what seat 2 proposed by the table of
+ * the board that they leave, that board as a script and back, and a round that four seats settle. */
 #include <inttypes.h>
 #include <stdio.h>
 #include <string.h>
@@ -106,6 +106,18 @@ static int by_calls(board_space *space) {
     return 0;
 }
 
+/* ---- what a seat has proposed in a round, by the board's table */
+
+static int look_up(const board_space *space, uint64_t round, uint64_t seat) {
+    size_t place = board_place(space->config, round, seat);
+    if (place == BOARD_PLACES || space->table[place] == 0) {
+        fputs("no proposal where there should be one\n", stderr);
+        return 1;
+    }
+    printf("seat %" PRIu64 " has proposed %" PRId32 "\n", seat, board_hundredths(space->table[place]));
+    return 0;
+}
+
 /* ---- a board as a script, and back */
 
 static int bring_back(const board_space *kept) {
@@ -191,5 +203,5 @@ int main(void) {
         return refused("a fresh board", opened.refusal);
     }
     board_space space = opened.space;
-    return whole() || by_hand() || by_calls(&space) || bring_back(&space) || settle(opened.space, offsets, 4);
+    return whole() || by_hand() || by_calls(&space) || look_up(&space, 0, 2) || bring_back(&space) || settle(opened.space, offsets, 4);
 }

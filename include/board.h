@@ -14,8 +14,8 @@
 #include <stddef.h>
 #include <stdint.h>
 
-/* 208 is document 01 with the requests 2.1 to 2.8 of document 02. It grows with each request that lands: with 2.9 it is 209. */
-#define BOARD_VERSION 208
+/* 209 is document 01 with the requests 2.1 to 2.9 of document 02. It grows with each request that lands: with 2.10 it is 210. */
+#define BOARD_VERSION 209
 
 #ifdef __cplusplus
 #define BOARD_ASSERT static_assert
@@ -35,6 +35,7 @@ enum {
     BOARD_POSITIONS = 112,         /* the last position of the shared list; the first is 1 */
     BOARD_FIELDS = 6,              /* the most fields of a tuple */
     BOARD_TUPLES = 256,            /* the most tuples of a board */
+    BOARD_PLACES = 248,            /* the places of a board's table: 31 for each round */
     BOARD_LARGEST_OFFSET = 100000, /* offsets are hundredths of a needle space, from minus this to this */
     BOARD_SCRIPT_BYTES = 65536,    /* the most bytes of a script */
     BOARD_TEXT_BYTES = 1048640,    /* a buffer of this size has room for every script's text */
@@ -195,12 +196,24 @@ typedef struct {
     uint64_t k;
 } board_config;
 
-/* a board: its tuples, oldest first; the places behind the count are zero */
+/* A board: its tuples, oldest first, those behind the count zero; and the table of who proposed what. Under policies 2 and 3 the place of a round and a seat,
+ * 31 * round + (seat - 1), has the code of the offset of the one proposal there; 0 is none. All others, and under the other policies all, are 0. A board
+ * whose table is not that of its tuples is refused 1: one made by hand has it filled in, or is made from board_fresh by calls, which keep it. */
 typedef struct {
     board_config config;
     size_t count;
     board_tuple tuples[BOARD_TUPLES];
+    uint64_t table[BOARD_PLACES];
 } board_space;
+
+/* The place of a round and a seat in the table of a board with this set-up; BOARD_PLACES where there is none: of a round above 7, of seat 0, and of a seat
+ * above n or above BOARD_SEATS. */
+static inline size_t board_place(board_config config, uint64_t round, uint64_t seat) {
+    if (round >= BOARD_ROUNDS || seat == 0 || seat > config.n || seat > BOARD_SEATS) {
+        return BOARD_PLACES;
+    }
+    return BOARD_SEATS * round + (seat - 1);
+}
 
 typedef struct {
     uint32_t outcome;
@@ -245,6 +258,8 @@ typedef struct {
 
 /* ---- what must agree with the library */
 
+BOARD_ASSERT(BOARD_PLACES == BOARD_ROUNDS * BOARD_SEATS, "BOARD_PLACES");
+
 #define BOARD_SIZE(type, bytes) BOARD_ASSERT(sizeof(type) == (bytes), #type)
 #define BOARD_AT(type, field, bytes) BOARD_ASSERT(offsetof(type, field) == (bytes), #type "." #field)
 
@@ -265,18 +280,19 @@ BOARD_AT(board_config, n, 0);
 BOARD_AT(board_config, t, 8);
 BOARD_AT(board_config, policy, 16);
 BOARD_AT(board_config, k, 24);
-BOARD_SIZE(board_space, 26664);
+BOARD_SIZE(board_space, 28648);
 BOARD_AT(board_space, config, 0);
 BOARD_AT(board_space, count, 32);
 BOARD_AT(board_space, tuples, 40);
+BOARD_AT(board_space, table, 26664);
 BOARD_SIZE(board_reply, 112);
 BOARD_AT(board_reply, outcome, 0);
 BOARD_AT(board_reply, refusal, 4);
 BOARD_AT(board_reply, tuple, 8);
-BOARD_SIZE(board_opened, 26672);
+BOARD_SIZE(board_opened, 28656);
 BOARD_AT(board_opened, refusal, 0);
 BOARD_AT(board_opened, space, 8);
-BOARD_SIZE(board_applied, 26776);
+BOARD_SIZE(board_applied, 28760);
 BOARD_AT(board_applied, reply, 0);
 BOARD_AT(board_applied, space, 112);
 BOARD_SIZE(board_read_call, 232);
@@ -305,7 +321,7 @@ BOARD_SUM(board_field, 2 * sizeof(uint32_t) + sizeof(uint64_t));
 BOARD_SUM(board_tuple, sizeof(size_t) + BOARD_FIELDS * sizeof(board_field));
 BOARD_SUM(board_call, 2 * sizeof(uint32_t) + 2 * sizeof(board_tuple));
 BOARD_SUM(board_config, 4 * sizeof(uint64_t));
-BOARD_SUM(board_space, sizeof(board_config) + sizeof(size_t) + BOARD_TUPLES * sizeof(board_tuple));
+BOARD_SUM(board_space, sizeof(board_config) + sizeof(size_t) + BOARD_TUPLES * sizeof(board_tuple) + BOARD_PLACES * sizeof(uint64_t));
 BOARD_SUM(board_reply, 2 * sizeof(uint32_t) + sizeof(board_tuple));
 BOARD_SUM(board_opened, sizeof(uint64_t) + sizeof(board_space));
 BOARD_SUM(board_applied, sizeof(board_reply) + sizeof(board_space));

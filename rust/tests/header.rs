@@ -12,6 +12,7 @@ use reference::list::LAST_POSITION;
 use reference::policy::LAST_ROUND;
 use reference::records::LONGEST_RECORD;
 use reference::script::LONGEST_SCRIPT;
+use reference::table::PLACES;
 use reference::{sys, Code, Kind, Offset, Refusal, State};
 
 /// A file of the repository.
@@ -58,7 +59,7 @@ fn the_header_has_this_layout() {
         layout!("board_tuple", sys::Tuple, count, fields),
         layout!("board_call", sys::Call, process, code, template, entry),
         layout!("board_config", sys::Config, n, t, policy, k),
-        layout!("board_space", sys::Space, config, count, tuples),
+        layout!("board_space", sys::Space, config, count, tuples, table),
         layout!("board_reply", sys::Reply, outcome, refusal, tuple),
         layout!("board_opened", sys::Opened, refusal, space),
         layout!("board_applied", sys::Applied, reply, space),
@@ -94,6 +95,7 @@ fn the_header_has_these_numbers() {
         ("POSITIONS", LAST_POSITION),
         ("FIELDS", MOST_FIELDS as u64),
         ("TUPLES", MOST_TUPLES as u64),
+        ("PLACES", PLACES as u64),
         ("LARGEST_OFFSET", Offset::LIMIT as u64),
         ("SCRIPT_BYTES", LONGEST_SCRIPT as u64),
         ("TEXT_BYTES", 16 * LONGEST_SCRIPT as u64 + 64),

@@ -5,9 +5,10 @@ mod common;
 
 use common::announced::{self, odd_announced};
 use common::denials::{Cause, Denials};
-use common::dumps::{board_with, near_miss, Dumps};
+use common::dumps::{near_miss, Dumps};
 use common::lists::{self, near_call, odd_listed};
 use common::reached::{weak_decision, Flaw};
+use common::tables::{self, board_with, stranger, table_of, with_fault, Calm, Tables, Unfit};
 use common::wide::Wide;
 use common::*;
 use reference::board::MOST_TUPLES;
@@ -19,6 +20,7 @@ use reference::list::LAST_POSITION;
 use reference::numbers::write_number;
 use reference::policy::LAST_ROUND;
 use reference::records::record_of;
+use reference::table::PLACES;
 use reference::{
     Answer, AnswerKind, Board, Call, Code, Config, Field, Kind, Offset, Phase, Refusal, Seat, Tuple,
 };
@@ -116,13 +118,13 @@ fn four_seats(policy: u64) -> Config {
     Config { n: 4, t: 1, policy, k: if policy == STRONG { 2 } else { 0 } }
 }
 
-/// Boards of every policy, some with the tuples that make a base call permitted; the last of them is no choice under policy 3, and behind
-/// a gap under policies 4 and 5. Under policy 5 seat 3's announcement waits for that gap.
+/// Boards of every policy, some with the tuples that make a base call permitted; the last of them is behind a gap under policies 4 and 5.
+/// Under policy 5 seat 3's announcement waits for that gap.
 fn base_boards() -> Vec<Board> {
     let mut boards = Vec::new();
     for policy in 0..=5 {
         boards.push(Board::fresh(four_seats(policy)).unwrap());
-        let offsets = if policy == STRONG { [1, 3, 1, 2] } else { [0x50, 0x51, 0x50, 9] };
+        let offsets = if policy == STRONG { [1, 3, 1, 3] } else { [0x50, 0x51, 0x50, 9] };
         let tuple = |(seat, offset)| match policy {
             LIST | WAIT_FREE => Tuple::listed(seat + u64::from(seat > 2), seat, 0, offset),
             _ => Tuple::proposal(0, seat, offset),
@@ -302,7 +304,7 @@ fn aimed_call(dice: &mut Dice, board: &Board) -> Call {
     }
 }
 
-/// A round in which most seats have proposed something, mostly not the same, at times nothing but the mark, or a second time.
+/// A round in which most seats have proposed something, mostly not the same, at times what none may, or a second time.
 fn odd_proposals(dice: &mut Dice, config: &Config) -> Vec<Tuple> {
     let mut proposals = Vec::new();
     for seat in 1..=config.n.clamp(1, MOST_SEATS) {
@@ -322,7 +324,6 @@ fn odd_board(dice: &mut Dice) -> Board {
         let (n, policy) = (1 + dice.below(MOST_SEATS), dice.pick(&[0, 1, 2, 2, 2, 3, 3, 3, 4, 4, 5, 5]));
         config_of(dice, n, policy)
     };
-    let mut board = Board { config, count: 0, tuples: [Tuple::BLANK; MOST_TUPLES] };
     let held = match dice.below(6) {
         0 => MOST_TUPLES,
         1 => MOST_TUPLES - 1,
@@ -330,16 +331,16 @@ fn odd_board(dice: &mut Dice) -> Board {
         _ => dice.below(48) as usize,
     };
     let proposals = if dice.one_in(2) { odd_proposals(dice, &config) } else { Vec::new() };
-    for place in 0..held {
-        board.tuples[place] = match proposals.get(place) {
-            Some(proposal) => *proposal,
-            None => odd_tuple(dice, &config),
-        };
+    let mut tuples: Vec<Tuple> = proposals.into_iter().take(held).collect();
+    tuples.resize_with(held, || odd_tuple(dice, &config));
+    // Most are settled, so that no proposal is for a place that is taken, or of what may not be proposed there.
+    if !dice.one_in(8) {
+        tables::settle(dice, &config, &mut tuples);
     }
-    board.count = held;
-    // What is not well formed: a count that is not the tuples', a dirty place, a field out of range.
+    let mut board = board_with(config, &tuples);
+    // What is not well formed: a count that is not the tuples', a dirty place, a field out of range, another table.
     if dice.one_in(5) {
-        match dice.below(4) {
+        match dice.below(5) {
             0 => {
                 let most = MOST_TUPLES;
                 board.count = dice.pick(&[0, 1, most / 2, most - 1, most, most + 1, 2 * most, usize::MAX]);
@@ -352,7 +353,12 @@ fn odd_board(dice: &mut Dice) -> Board {
                 let (place, part) = (dice.below(held.max(1) as u64) as usize, dice.below(TUPLE_PARTS));
                 spoil_tuple(dice, &mut board.tuples[place], part);
             }
+            3 => tables::spoil_table(dice, &mut board),
             _ => board.tuples[MOST_TUPLES - 1].fields[5].value = 1,
+        }
+        // The table of what then stands there, if it is not the table that was changed.
+        if board.table == table_of(&config, &tuples) && dice.one_in(2) {
+            board.table = table_of(&config, board.held());
         }
     }
     board
@@ -362,16 +368,19 @@ fn odd_board(dice: &mut Dice) -> Board {
 fn boards_that_no_run_makes() {
     let mut dice = Dice::new(4);
     let (mut inputs, mut outcomes) = (0, [0usize; ANSWERS]);
-    let (mut denials, mut wide) = (Denials::default(), Wide::default());
+    let (mut denials, mut wide, mut tables) = (Denials::default(), Wide::default(), Tables::default());
     // What is inserted or held under policies 2 to 5, and the mark, which is so under policy 2.
     let (mut entries, mut marks) = ([0usize; 4], 0);
     for _ in 0..42_000 {
         let mut board = odd_board(&mut dice);
         let policy = board.config.policy;
-        for _ in 0..2 {
+        for turn in 0..2 {
             let call = aimed_call(&mut dice, &board);
             let before = board.clone();
             let answer = compare_call(&mut board, &call);
+            if turn == 0 {
+                tables.note(&before, answer == Answer::from(Refusal::Unsound));
+            }
             denials.note(&before, &call, &answer);
             wide.note(&before, &call, &answer);
             outcomes[refusal_of(&answer)] += 1;
@@ -392,6 +401,11 @@ fn boards_that_no_run_makes() {
     wide.assert_boards(&[WAIT_FREE], [100, 100, 5]);
     wide.assert_sets(&[DEFAULT, STRONG], 50);
     wide.assert_set_ups(10);
+    tables.print();
+    tables.assert_half(&[BARE, WEAK, DEFAULT, STRONG, LIST, WAIT_FREE]);
+    for policy in [BARE, WEAK, DEFAULT, STRONG] {
+        tables.assert_calm(policy, Calm::under(policy), 200);
+    }
     denials.announced.assert_each(&lists::Cause::UNDER_5, 25);
     assert!(outcomes[12] > 200 && outcomes[13] > 200, "{outcomes:?}");
 }
@@ -400,10 +414,11 @@ fn boards_that_no_run_makes() {
 fn board_of_a_round(dice: &mut Dice, round: u64) -> Board {
     let (n, policy) = (1 + dice.below(MOST_SEATS), dice.pick(&[DEFAULT, STRONG]));
     let config = config_of(dice, n, policy);
-    let (share, odd) = (dice.pick(&[1, 2, 3, 4, 4, 4]), dice.one_in(2));
+    // What no run makes: the mark or what is no choice, and a second proposal. In rounds 0 to 7 no well-formed board has them.
+    let odd = dice.one_in(if round > LAST_ROUND { 2 } else { 8 });
+    let share = dice.pick(&[1, 2, 3, 4, 4, 4]);
     let mut tuples = Vec::new();
     for seat in 1..=n {
-        // What no run makes: the mark or what is no choice, and a second proposal.
         let rare = if odd { dice.below(8) } else { 2 };
         if rare == 0 {
             let none = if policy == STRONG { no_choice(dice, config.k) } else { Offset::MARK };
@@ -415,16 +430,24 @@ fn board_of_a_round(dice: &mut Dice, round: u64) -> Board {
             tuples.push(Tuple::proposal(round, seat, near_offset(dice, &config)));
         }
     }
+    // What has no place in the table does not matter to the round.
+    for _ in 0..dice.pick(&[0, 0, 1, 3]) {
+        let place = dice.below(tuples.len() as u64 + 1) as usize;
+        tuples.insert(place, stranger(dice, &config));
+    }
     if dice.one_in(4) {
         tuples.push(Tuple::decision(round, likely_offset(dice, &config), 1));
     }
     if dice.one_in(8) {
+        let held = tuples.len();
         tuples.resize_with(MOST_TUPLES, || odd_tuple(dice, &config));
+        // These are settled behind the round's own.
+        if !odd {
+            tables::settle(dice, &config, &mut tuples);
+            tuples[..held].rotate_left(held / 2);
+        }
     }
-    let mut board = Board::fresh(config).expect("a sound set-up");
-    board.tuples[..tuples.len()].copy_from_slice(&tuples);
-    board.count = tuples.len();
-    board
+    board_with(config, &tuples)
 }
 
 /// Some members of a set, so many at most.
@@ -500,10 +523,11 @@ fn near_cas(dice: &mut Dice, board: &Board, round: u64) -> Call {
 fn denials_and_their_causes() {
     let mut dice = Dice::new(14);
     let (mut inputs, mut outcomes) = (0, [0usize; ANSWERS]);
-    let (mut denials, mut wide) = (Denials::default(), Wide::default());
+    let (mut denials, mut wide, mut tables) = (Denials::default(), Wide::default(), Tables::default());
     for _ in 0..5_000 {
         let round = dice.pick(&[0, 1, 6, 7, 8]);
         let before = board_of_a_round(&mut dice, round);
+        tables.note(&before, before.check().is_err());
         for _ in 0..4 {
             let mut call = match dice.below(10) {
                 0..=3 => near_out(&mut dice, &before, round),
@@ -530,6 +554,86 @@ fn denials_and_their_causes() {
     wide.print();
     wide.assert_boards(&[DEFAULT, STRONG], [25, 100, 10]);
     wide.assert_sets(&[DEFAULT, STRONG], 100);
+    tables.print();
+    tables.assert_half(&[DEFAULT, STRONG]);
+    for policy in [DEFAULT, STRONG] {
+        tables.assert_calm(policy, &Calm::UNDER_2_AND_3, 100);
+    }
+}
+
+/// A well-formed board of a policy: one that a run makes part of the time, else one that no run need make.
+fn formed_board(dice: &mut Dice, policy: u64) -> Board {
+    let n = 1 + dice.below(MOST_SEATS);
+    let config = config_of(dice, n, policy);
+    let held = dice.pick(&[0, 1, 3, 8, 20, 40, 100, 200, MOST_TUPLES as u64]);
+    let mut tuples: Vec<Tuple> = (0..held).map(|_| odd_tuple(dice, &config)).collect();
+    if [DEFAULT, STRONG].contains(&policy) && dice.one_in(2) {
+        // Rounds as a run makes them, up to the last of them.
+        let proposal = |place: u64| Tuple::proposal(place / n, 1 + place % n, 1 + 2 * (place % 2));
+        tuples = (0..held.min((LAST_ROUND + 1) * n)).map(proposal).collect();
+    }
+    tables::settle(dice, &config, &mut tuples);
+    board_with(config, &tuples)
+}
+
+/// Boards that are well formed, and those beside them with one fault of their tables or of what is proposed on them: these are refused 1 by
+/// every call and by the script writer, and come back as they were. And those with what has no place in the table, which does not matter.
+#[test]
+fn boards_and_their_tables() {
+    let mut dice = Dice::new(29);
+    let mut tables = Tables::default();
+    let mut inputs = [0usize; 3];
+    let try_board = |dice: &mut Dice, tables: &mut Tables, board: &Board, fault: Option<Unfit>| {
+        assert_eq!(tables::unfit(board), fault, "{board:?}");
+        let mut after = board.clone();
+        let call = aimed_call(dice, board);
+        let answer = compare_call(&mut after, &call);
+        let room = dice.pick(&[0, 3, LONGEST_DUMP]);
+        let dumped = compare_dump(board, &vec![0xA5; room]);
+        let refused = answer == Answer::from(Refusal::Unsound);
+        assert_eq!(refused, dumped == Err(Refusal::Unsound), "{call:?} on {board:?}");
+        assert!(!refused || after == *board, "a refused call changed the board");
+        tables.note(board, refused);
+        refused
+    };
+    for (turn, policy) in (0..300).flat_map(|turn| (0..=WAIT_FREE).map(move |policy| (turn, policy))) {
+        let board = formed_board(&mut dice, policy);
+        assert!(!try_board(&mut dice, &mut tables, &board, None));
+        inputs[0] += 1;
+        for fault in Unfit::under(policy) {
+            if let Some(other) = with_fault(&mut dice, &board, *fault) {
+                assert!(try_board(&mut dice, &mut tables, &other, Some(*fault)));
+                inputs[1] += 1;
+            }
+        }
+        // One stranger, or several, the same one among them.
+        let mut tuples = board.held().to_vec();
+        tuples.truncate(MOST_TUPLES - 4);
+        for _ in 0..1 + turn % 3 {
+            let other = stranger(&mut dice, &board.config);
+            let place = dice.below(tuples.len() as u64 + 1) as usize;
+            tuples.insert(place, other);
+            if turn % 3 == 1 {
+                tuples.push(other);
+            }
+        }
+        let other = board_with(board.config, &tuples);
+        assert!(!try_board(&mut dice, &mut tables, &other, None));
+        inputs[2] += 1;
+    }
+    let [formed, faults, strangers] = inputs;
+    count(
+        "boards and their tables",
+        formed + faults + strangers,
+        format!("{formed} well formed, {faults} with one fault, each refused 1, {strangers} with strangers"),
+    );
+    tables.print();
+    for policy in 0..=WAIT_FREE {
+        tables.assert_unfit(policy, Unfit::under(policy), 100);
+    }
+    for policy in [BARE, WEAK, DEFAULT, STRONG] {
+        tables.assert_calm(policy, Calm::under(policy), 25);
+    }
 }
 
 /// How many tuples the boards hold that are then made dirty: few or none, and half of what they may or more.
@@ -556,14 +660,24 @@ fn boards_with_dirty_places() {
     };
     for (policy, held) in (0..=5).flat_map(|policy| HELD[policy as usize % 3].map(|held| (policy, held))) {
         let config = four_seats(policy);
-        let mut clean = Board::fresh(config).unwrap();
-        clean.tuples[..held].fill_with(|| odd_tuple(&mut dice, &config));
-        clean.count = held;
+        let mut tuples: Vec<Tuple> = (0..held).map(|_| odd_tuple(&mut dice, &config)).collect();
+        tables::settle(&mut dice, &config, &mut tuples);
+        let clean = board_with(config, &tuples);
         assert_eq!(clean.check(), Ok(()));
         for place in 0..MOST_TUPLES {
             for part in 0..TUPLE_PARTS {
                 let mut board = clean.clone();
                 soil(&mut dice, &mut board.tuples[place], part);
+                try_board(&mut dice, board);
+            }
+        }
+        // Every place of the table, and what stands there made another, or nothing.
+        for place in 0..PLACES {
+            let code = clean.table[place];
+            let other = if code == 0 { dice.pick(&[1, 2, 3, 200_001]) } else { code ^ dice.pick(&[1, 2, 4]) };
+            for value in [other, if code == 0 { u64::MAX } else { 0 }] {
+                let mut board = clean.clone();
+                board.table[place] = value;
                 try_board(&mut dice, board);
             }
         }
@@ -590,7 +704,8 @@ fn boards_with_dirty_places() {
 fn next_tuple(dice: &mut Dice, board: &Board) -> Tuple {
     let Config { n, policy, k, .. } = board.config;
     let round = if dice.one_in(30) { LAST_ROUND + 1 } else { dice.pick(&[0, 0, 1, LAST_ROUND]) };
-    let offset = if dice.one_in(20) { no_choice(dice, k) } else { likely_offset(dice, &board.config) };
+    let rare = if policy == WEAK { 20 } else { 60 };
+    let offset = if dice.one_in(rare) { no_choice(dice, k) } else { likely_offset(dice, &board.config) };
     match policy {
         _ if dice.one_in(40) => odd_tuple(dice, &board.config),
         WAIT_FREE if dice.one_in(3) => odd_announced(dice, &board.config, board.held()),
@@ -602,8 +717,14 @@ fn next_tuple(dice: &mut Dice, board: &Board) -> Tuple {
             _ => {
                 let proposed = bearers(board, round, Offset::MARK);
                 let free: Vec<u64> = (1..=n).filter(|seat| proposed >> (seat - 1) & 1 == 0).collect();
+                // Seldom one that has proposed, and one that is none.
                 let any = free.is_empty() || dice.one_in(10);
-                let seat = if any { dice.below(n + 2) } else { dice.pick(&free) };
+                let taken = dice.one_in(4);
+                let seat = match (any, taken) {
+                    (false, _) => dice.pick(&free),
+                    (true, true) => 1 + dice.below(n),
+                    (true, false) => dice.pick(&[0, n + 1]),
+                };
                 Tuple::proposal(round, seat, offset)
             }
         },
@@ -638,8 +759,8 @@ fn small_board(dice: &mut Dice) -> Board {
     let (n, policy) = (dice.pick(&[1, 2, 3, 4, 4, 4, 5, 7]), dice.below(WAIT_FREE + 1));
     let mut board = Board::fresh(config_of(dice, n, policy)).expect("a sound set-up");
     for _ in 0..dice.below(11) {
-        board.tuples[board.count] = next_tuple(dice, &board);
-        board.count += 1;
+        let tuple = next_tuple(dice, &board);
+        tables::push(&mut board, tuple);
     }
     board
 }

@@ -6,9 +6,10 @@ mod common;
 
 use common::announced::{self, odd_tuples};
 use common::denials::Denials;
-use common::dumps::{board_with, near_miss, Dumps};
+use common::dumps::{near_miss, Dumps};
 use common::lists::{near_call, odd_list, Cause};
 use common::reached::Flaw;
+use common::tables::board_with;
 use common::wide::Wide;
 use common::*;
 use reference::board::MOST_TUPLES;

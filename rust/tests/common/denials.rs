@@ -12,10 +12,9 @@ use super::lists::Lists;
 /// Why a call is denied.
 #[derive(Clone, Copy, Debug, PartialEq, Eq, PartialOrd, Ord)]
 pub enum Cause {
-    /// 12: the same offset stands there already; another that may be proposed does; only the mark or what is no choice does.
+    /// 12: the same offset stands there already; another does.
     SameAgain,
     OtherAgain,
-    NoneAgain,
     /// 7: a second out with the mark, of what is no choice, of another seat's number, in a round above 7; any other out.
     MarkAgain,
     NoChoiceAgain,
@@ -52,10 +51,9 @@ use Cause::*;
 
 impl Cause {
     /// Those that both policies have, on any board.
-    pub const BOTH: [Cause; 16] = [
+    pub const BOTH: [Cause; 15] = [
         SameAgain,
         OtherAgain,
-        NoneAgain,
         MarkAgain,
         AnothersAgain,
         RoundAgain,
@@ -77,7 +75,7 @@ impl Cause {
     /// The number of its refusal.
     pub fn number(self) -> u32 {
         match self {
-            SameAgain | OtherAgain | NoneAgain => 12,
+            SameAgain | OtherAgain => 12,
             NoMember | TooFew | Differs | Silent | Several => 13,
             MarkNoMember | MarkTooFew | MarkSilent | MarkCrowded | MarkNoStrays | MarkSeveral => 13,
             MarkAgain | NoChoiceAgain | AnothersAgain | RoundAgain | OtherOut => 7,
@@ -102,12 +100,11 @@ impl Cause {
         let place = Tuple::proposal_template(round, seat);
         let standing: Vec<u64> =
             board.held().iter().filter(|held| place.matches(held)).map(|held| held.fields[3].value).collect();
-        let may = |w: &u64| offered(&board.config, *w);
-        match (standing.is_empty(), round <= LAST_ROUND, seat == call.process.into(), may(&offset)) {
+        let may = offered(&board.config, offset);
+        match (standing.is_empty(), round <= LAST_ROUND, seat == call.process.into(), may) {
             (true, true, true, true) => None,
             (false, true, true, true) if standing.contains(&offset) => Some(SameAgain),
-            (false, true, true, true) if standing.iter().any(may) => Some(OtherAgain),
-            (false, true, true, true) => Some(NoneAgain),
+            (false, true, true, true) => Some(OtherAgain),
             (false, true, true, false) if offset == Offset::MARK => Some(MarkAgain),
             (false, true, true, false) => Some(NoChoiceAgain),
             (false, true, false, true) => Some(AnothersAgain),

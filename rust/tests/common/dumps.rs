@@ -13,6 +13,7 @@ use reference::{flat, sys};
 use reference::{Answer, Board, Code, Config, Kind, Refusal, Tuple};
 
 use super::reached::{flaw, Flaw};
+use super::tables::{board_with, is_tidy, spoil_table, unfit, Calm, Tables, Unfit};
 use super::wide::is_wide;
 use super::{compare_dump, Dice, CHOICES, POLICIES, VALUES};
 
@@ -33,6 +34,8 @@ pub struct Dumps {
     /// Of boards that hold more than half of what they may: how many were written, and how many refused 14 or 15.
     wide: BTreeMap<u64, [usize; 2]>,
     flaws: BTreeMap<(u64, Flaw), usize>,
+    /// Which boards are well formed by their tables, and which are not.
+    tables: Tables,
     /// The last script that was run.
     last: Option<Ran>,
 }
@@ -43,10 +46,12 @@ impl Dumps {
         let policy = board.config.policy;
         let came = self.came.entry(policy).or_default();
         let answer = compare_dump(board, &[0xA5; LONGEST_DUMP + 1]);
-        let refused = board.check().err().or((policy == WAIT_FREE).then_some(Refusal::Unwritten));
+        let unsound = (!is_tidy(board) || unfit(board).is_some()).then_some(Refusal::Unsound);
+        let refused = unsound.or((policy == WAIT_FREE).then_some(Refusal::Unwritten));
         let flaw = if refused.is_none() { flaw(board) } else { None };
         let expected = refused.or(flaw.map(|_| Refusal::Unreached));
         assert_eq!(answer.as_ref().err(), expected.as_ref(), "{flaw:?} in {board:?}");
+        self.tables.note(board, unsound.is_some());
         match &answer {
             Ok(script) => {
                 // The other lengths for every small board, and for every eighth of the larger ones.
@@ -110,6 +115,7 @@ impl Dumps {
                 println!("         refused 14 under policy {policy}: {}", flaws.join(", "));
             }
         }
+        self.tables.print();
         if !self.wide.is_empty() {
             println!(
                 "         of more than half of the tuples, written and refused 14 or 15: {:?}",
@@ -135,6 +141,17 @@ impl Dumps {
             _ => (vec![written, unsound, unreached], unwritten),
         };
         assert!(can.iter().all(|often| *often >= least) && cannot == 0, "{came:?} under policy {policy}");
+    }
+
+    /// Half of the boards at least were well formed under these policies.
+    pub fn assert_half(&self, policies: &[u64]) {
+        self.tables.assert_half(policies);
+    }
+
+    /// Each of these faults of the table, and each of these that are none, came so often at least under this policy.
+    pub fn assert_tables(&self, policy: u64, (faults, calm): (&[Unfit], &[Calm]), least: usize) {
+        self.tables.assert_unfit(policy, faults, least);
+        self.tables.assert_calm(policy, calm, least);
     }
 
     /// Each of these flaws came so often at least under this policy.
@@ -229,19 +246,13 @@ fn text_of(board: &Board, numbers: &[u64]) -> String {
     text + &format!("tuples {}\n", board.count)
 }
 
-/// A board with these tuples, as if handed in.
-pub fn board_with(config: Config, tuples: &[Tuple]) -> Board {
-    let mut board = Board { config, count: tuples.len(), tuples: [Tuple::BLANK; MOST_TUPLES] };
-    board.tuples[..tuples.len()].copy_from_slice(tuples);
-    board
-}
-
-/// A board beside this one: two of its tuples swapped, one repeated, one taken out, one value changed, or under another set-up.
+/// A board beside this one: two of its tuples swapped, one repeated, one taken out, one value changed, or under another set-up, each with the
+/// table of its tuples; or with another table.
 pub fn near_miss(dice: &mut Dice, board: &Board) -> Board {
     let mut config = board.config;
     let mut tuples = board.held().to_vec();
     let held = tuples.len() as u64;
-    match dice.below(6) {
+    match dice.below(7) {
         0 | 1 if held > 1 => {
             let first = dice.below(held) as usize;
             // Half of them with the next but one or two, so that few others stand between.
@@ -258,6 +269,11 @@ pub fn near_miss(dice: &mut Dice, board: &Board) -> Board {
         4 if held > 0 => {
             let place = dice.below(held) as usize;
             change_value(dice, &mut tuples[place]);
+        }
+        5 => {
+            let mut other = board.clone();
+            spoil_table(dice, &mut other);
+            return other;
         }
         _ => change_set_up(dice, &mut config),
     }

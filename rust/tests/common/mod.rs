@@ -8,12 +8,12 @@ pub mod denials;
 pub mod dumps;
 pub mod lists;
 pub mod reached;
+pub mod tables;
 pub mod wide;
 
 use std::cell::RefCell;
 use std::fmt::Debug;
 
-use reference::board::MOST_TUPLES;
 use reference::config::STRONG;
 use reference::dump::dump_into;
 use reference::fields::{MOST_FIELDS, MOST_SEATS};
@@ -303,7 +303,7 @@ fn differ<T: Debug>(proved: T, plain: T, input: impl FnOnce() -> String) -> ! {
 /// A fresh board, by both: the refusal, and beside it the blank space.
 pub fn compare_fresh(config: Config) -> Result<Board, Refusal> {
     let plain = Board::fresh(config);
-    let blank = Board { config: Config::default(), count: 0, tuples: [Tuple::BLANK; MOST_TUPLES] };
+    let blank = tables::board_with(Config::default(), &[]);
     let refusal = plain.as_ref().map_or_else(|refusal| refusal.number().into(), |_| 0);
     let space = flat::space(plain.as_ref().unwrap_or(&blank));
     same_bytes(sys::fresh(flat::config(&config)), sys::Opened { refusal, space }, || format!("{config:?}"));

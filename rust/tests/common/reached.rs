@@ -1,6 +1,7 @@
 //! Whether any script ends in a well-formed board (02, 2.4), by a rule over the order of its tuples and without a run: every tuple must be
 //! one that the policy lets somebody append to those before it, since policies 1 to 4 let nobody take one off. Policy 5 does, and has no
-//! rule here: its boards are not written back.
+//! rule here: its boards are not written back. A seat's second proposal in a round, the mark and what is no choice have none either: a board
+//! with one is not well formed (02, 2.9), which `tables` judges.
 
 use reference::config::{BARE, DEFAULT, LIST, STRONG, WEAK};
 use reference::policy::LAST_ROUND;
@@ -14,12 +15,8 @@ pub enum Flaw {
     /// A proposal or a list tuple of seat 0; of one above n.
     SeatZero,
     SeatAbove,
-    /// A proposal in a round above 7; of the mark; of what is no choice; after the seat's own in the round, equal or other.
+    /// A proposal in a round above 7.
     ProposedRound,
-    ProposedMark,
-    ProposedNoChoice,
-    SameAgain,
-    OtherAgain,
     /// A decision in a round above 7; after another of the round; of the mark where it can't be decided; of what is no choice; with a
     /// member above n.
     DecidedRound,
@@ -45,14 +42,11 @@ use Flaw::*;
 impl Flaw {
     /// Those that each policy has, on boards of few tuples too.
     pub const UNDER_1: [Flaw; 4] = [Shape, DecidedRound, DecidedAgain, DecidedMark];
-    pub const UNDER_2_AND_3: [Flaw; 13] = [
+    pub const UNDER_2_AND_3: [Flaw; 10] = [
         Shape,
         SeatZero,
         SeatAbove,
         ProposedRound,
-        ProposedMark,
-        SameAgain,
-        OtherAgain,
         DecidedRound,
         DecidedAgain,
         SetAbove,
@@ -61,7 +55,7 @@ impl Flaw {
         Silent,
     ];
     pub const UNDER_2: [Flaw; 1] = [Crowded];
-    pub const UNDER_3: [Flaw; 3] = [ProposedNoChoice, DecidedMark, DecidedNoChoice];
+    pub const UNDER_3: [Flaw; 2] = [DecidedMark, DecidedNoChoice];
     pub const UNDER_4: [Flaw; 6] = [Shape, SeatZero, SeatAbove, Misplaced, ListedMark, ListedAgain];
 }
 
@@ -82,7 +76,7 @@ fn flaw_of(config: &Config, held: &[Tuple], place: usize) -> Option<Flaw> {
             flaw_of_decision(config, held, place, (second, third, None))
         }
         DEFAULT | STRONG if tuple == Tuple::proposal(second, third, fourth) => {
-            flaw_of_proposal(config, &held[..place], (second, third, fourth))
+            flaw_of_proposal(config, second, third)
         }
         DEFAULT | STRONG if tuple == Tuple::decision(second, third, fourth) => {
             flaw_of_decision(config, held, place, (second, third, Some(fourth)))
@@ -101,20 +95,11 @@ pub fn weak_decision(round: u64, offset: u64) -> Tuple {
     ])
 }
 
-fn flaw_of_proposal(
-    config: &Config,
-    before: &[Tuple],
-    (round, seat, offset): (u64, u64, u64),
-) -> Option<Flaw> {
-    match proposed(before, round, seat) {
-        _ if seat == 0 => Some(SeatZero),
+fn flaw_of_proposal(config: &Config, round: u64, seat: u64) -> Option<Flaw> {
+    match seat {
+        0 => Some(SeatZero),
         _ if seat > config.n => Some(SeatAbove),
-        _ if round > LAST_ROUND => Some(ProposedRound),
-        _ if offset == Offset::MARK => Some(ProposedMark),
-        _ if !is_choice(config, offset) => Some(ProposedNoChoice),
-        Some(own) if own == offset => Some(SameAgain),
-        Some(_) => Some(OtherAgain),
-        None => None,
+        _ => (round > LAST_ROUND).then_some(ProposedRound),
     }
 }
 
@@ -165,7 +150,7 @@ fn flaw_of_decision(
     unborne(&held[..place]).map(|flaw| if unborne(held).is_none() { Early } else { flaw })
 }
 
-/// Why a set in 1 to n does not bear an offset or the mark in a round, by the oldest proposals among these tuples.
+/// Why a set in 1 to n does not bear an offset or the mark in a round, by the proposals among these tuples.
 fn unborne(config: &Config, tuples: &[Tuple], (round, offset, set): (u64, u64, u64)) -> Option<Flaw> {
     let Config { n, t, .. } = *config;
     let members = (1..=n).filter(|seat| set >> (seat - 1) & 1 == 1);
@@ -184,7 +169,7 @@ fn unborne(config: &Config, tuples: &[Tuple], (round, offset, set): (u64, u64, u
     }
 }
 
-/// The offset of a seat's oldest proposal in a round among these tuples.
+/// The offset of a seat's proposal in a round among these tuples.
 fn proposed(tuples: &[Tuple], round: u64, seat: u64) -> Option<u64> {
     let offset = |tuple: &Tuple| tuple.fields[3].value;
     tuples.iter().find(|tuple| **tuple == Tuple::proposal(round, seat, offset(tuple))).map(offset)

@@ -64,6 +64,9 @@ impl From<Result<Answer, Refusal>> for Answer {
     }
 }
 
+/// How a board obeys a call: by searching, or in the benchmark by its table.
+pub(crate) type Obey = fn(&mut Board, &Call) -> Result<Answer, Refusal>;
+
 /// A board as a plain value that can hold anything: a list of tuples, oldest
 /// first, in the front places of `tuples`, and the table of the proposals among
 /// them.

@@ -1,6 +1,6 @@
 //! A board written back as a script (02, 2.4 and 2.6 to 2.9).
 
-use crate::board::{AnswerKind, Board, MOST_TUPLES};
+use crate::board::{Answer, AnswerKind, Board, Obey, MOST_TUPLES};
 use crate::config::{Config, BARE, LIST, STRONG, WAIT_FREE, WEAK};
 use crate::fields::{Field, Kind, Tuple, DECISION, MOST_FIELDS};
 use crate::numbers::{write_number, LONGEST_NUMBER};
@@ -14,7 +14,12 @@ pub const LONGEST_DUMP: usize = 3 + MOST_TUPLES * (3 + MOST_FIELDS * (1 + LONGES
 /// Stores the board's script from the buffer's first byte and answers its
 /// length. No byte after it is changed, and on a refusal no byte at all.
 pub fn dump_into(board: &Board, buffer: &mut [u8]) -> Result<usize, Refusal> {
-    let script = script_of(board)?;
+    dump_by(board, buffer, Board::obey)
+}
+
+/// The same, each call of the run obeyed in this way.
+pub(crate) fn dump_by(board: &Board, buffer: &mut [u8], obey: Obey) -> Result<usize, Refusal> {
+    let script = script_by(board, obey)?;
     let lent = buffer.get_mut(..script.len()).ok_or(Refusal::Buffer)?;
     lent.copy_from_slice(&script);
     Ok(script.len())
@@ -28,6 +33,11 @@ pub fn dump_into(board: &Board, buffer: &mut [u8]) -> Result<usize, Refusal> {
 /// first, and the only calls that could are those of `call_of`. So it is
 /// enough to see whether these, in a run of their own, append every tuple.
 pub fn script_of(board: &Board) -> Result<Vec<u8>, Refusal> {
+    script_by(board, Board::obey)
+}
+
+/// The same, each call of the run obeyed in this way.
+fn script_by(board: &Board, obey: Obey) -> Result<Vec<u8>, Refusal> {
     board.check()?;
     if board.config.policy == WAIT_FREE {
         return Err(Refusal::Unwritten);
@@ -36,7 +46,7 @@ pub fn script_of(board: &Board) -> Result<Vec<u8>, Refusal> {
     let mut run = Board::fresh(board.config)?;
     for tuple in board.held() {
         let call = call_of(board.config.policy, tuple).ok_or(Refusal::Unreached)?;
-        if !appends(&mut run, &call) {
+        if !appends(obey(&mut run, &call)) {
             return Err(Refusal::Unreached);
         }
         push_record(&call, &mut script)?;
@@ -89,9 +99,9 @@ fn weak_template(round: u64) -> Tuple {
     ])
 }
 
-/// Makes a call; whether it appended its entry.
-fn appends(run: &mut Board, call: &Call) -> bool {
-    run.obey(call).is_ok_and(|answer| matches!(answer.kind, AnswerKind::Done | AnswerKind::Inserted))
+/// Whether a call that was answered so has appended its entry.
+fn appends(answer: Result<Answer, Refusal>) -> bool {
+    answer.is_ok_and(|answer| matches!(answer.kind, AnswerKind::Done | AnswerKind::Inserted))
 }
 
 #[cfg(test)]
@@ -132,7 +142,7 @@ mod tests {
         let mut board = Board::fresh(config).unwrap();
         while !reader.at_end() {
             let call = reader.record().unwrap();
-            assert!(appends(&mut board, &call), "{call:?}");
+            assert!(appends(board.obey(&call)), "{call:?}");
         }
         board
     }

@@ -5,7 +5,8 @@
 //!
 //! `sys` and `flat` stand apart: they reach the proved library, for the tests
 //! that compare the two (tests/compare.rs, lists.rs and together.rs) and for
-//! the benchmark (the program bench).
+//! the benchmark (the program bench). So does `tabled`, which is the benchmark's
+//! alone.
 
 pub mod refusal;
 
@@ -40,6 +41,8 @@ pub mod rounds;
 pub mod sys;
 
 pub mod flat;
+
+pub mod tabled;
 
 pub use board::{Answer, AnswerKind, Board};
 pub use config::Config;

@@ -2,7 +2,7 @@
 
 use std::fmt::Write;
 
-use crate::board::{Answer, Board};
+use crate::board::{Answer, Board, Obey};
 use crate::config::{Config, STRONG};
 use crate::records::Reader;
 use crate::refusal::Refusal;
@@ -13,7 +13,12 @@ pub const LONGEST_SCRIPT: usize = 65_536;
 
 /// The text that the program board prints for this script.
 pub fn run(script: &[u8]) -> String {
-    match lines(script) {
+    run_by(script, Board::obey)
+}
+
+/// The same, each call obeyed in this way.
+pub(crate) fn run_by(script: &[u8], obey: Obey) -> String {
+    match lines(script, obey) {
         Ok(text) => text,
         Err(refusal) => format!("{refusal}\n"),
     }
@@ -30,7 +35,7 @@ pub fn run_into(script: &[u8], buffer: &mut [u8]) -> Result<usize, Refusal> {
 
 /// The lines from a board that stands, or why none does: 9, then reading the
 /// set-up, then 1.
-fn lines(script: &[u8]) -> Result<String, Refusal> {
+fn lines(script: &[u8], obey: Obey) -> Result<String, Refusal> {
     if script.len() > LONGEST_SCRIPT {
         return Err(Refusal::TooLong);
     }
@@ -44,7 +49,7 @@ fn lines(script: &[u8]) -> Result<String, Refusal> {
         number += 1;
         let read = reader.record();
         let answer = match &read {
-            Ok(call) => Answer::from(board.obey(call)),
+            Ok(call) => Answer::from(obey(&mut board, call)),
             Err(refusal) => Answer::from(*refusal),
         };
         write!(text, "{number} ").expect("a String takes everything");

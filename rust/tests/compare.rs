@@ -21,6 +21,7 @@ use reference::numbers::write_number;
 use reference::policy::LAST_ROUND;
 use reference::records::record_of;
 use reference::table::PLACES;
+use reference::tabled;
 use reference::{
     Answer, AnswerKind, Board, Call, Code, Config, Field, Kind, Offset, Phase, Refusal, Seat, Tuple,
 };
@@ -381,6 +382,9 @@ fn boards_that_no_run_makes() {
             if turn == 0 {
                 tables.note(&before, answer == Answer::from(Refusal::Unsound));
             }
+            if [DEFAULT, STRONG].contains(&policy) {
+                hold_tabled(&before, &call, &answer, &board);
+            }
             denials.note(&before, &call, &answer);
             wide.note(&before, &call, &answer);
             outcomes[refusal_of(&answer)] += 1;
@@ -408,6 +412,13 @@ fn boards_that_no_run_makes() {
     }
     denials.announced.assert_each(&lists::Cause::UNDER_5, 25);
     assert!(outcomes[12] > 200 && outcomes[13] > 200, "{outcomes:?}");
+}
+
+/// The benchmark's plain side, which answers from the table, answers as the one that searches.
+fn hold_tabled(before: &Board, call: &Call, answer: &Answer, after: &Board) {
+    let mut board = before.clone();
+    assert_eq!(Answer::from(tabled::call(&mut board, call)), *answer, "{call:?} on {before:?}");
+    assert!(board == *after, "{call:?} on {before:?}");
 }
 
 /// A board of one round: who has proposed what, mostly as a run makes it, at times decided or full.
@@ -538,7 +549,9 @@ fn denials_and_their_causes() {
                 let part = dice.below(PARTS);
                 spoil(&mut dice, &mut call, part);
             }
-            let answer = compare_call(&mut before.clone(), &call);
+            let mut after = before.clone();
+            let answer = compare_call(&mut after, &call);
+            hold_tabled(&before, &call, &answer, &after);
             denials.note(&before, &call, &answer);
             wide.note(&before, &call, &answer);
             outcomes[refusal_of(&answer)] += 1;
@@ -796,6 +809,19 @@ fn small_boards_written_back() {
     dumps.assert_each(DEFAULT, &Flaw::UNDER_2, 5);
     dumps.assert_each(STRONG, &Flaw::UNDER_2_AND_3, 5);
     dumps.assert_each(STRONG, &Flaw::UNDER_3, 5);
+    dumps.assert_half(&[BARE, WEAK, DEFAULT, STRONG, LIST, WAIT_FREE]);
+    let calm = [Calm::SeatZero, Calm::SeatNext, Calm::RoundNext, Calm::Twice];
+    dumps.assert_tables(DEFAULT, (&[Unfit::SameAgain, Unfit::OtherAgain, Unfit::Mark], &calm), 25);
+    dumps.assert_tables(DEFAULT, (&[Unfit::Changed, Unfit::Missing, Unfit::AboveN], &[]), 25);
+    dumps.assert_tables(
+        STRONG,
+        (&[Unfit::SameAgain, Unfit::OtherAgain, Unfit::Mark, Unfit::NoChoice], &calm),
+        25,
+    );
+    dumps.assert_tables(STRONG, (&[Unfit::Changed, Unfit::Missing, Unfit::AboveN], &[]), 25);
+    for policy in [BARE, WEAK, LIST, WAIT_FREE] {
+        dumps.assert_tables(policy, (&[Unfit::NotEmpty], &[Calm::Untabled]), 25);
+    }
 }
 
 #[test]
@@ -806,6 +832,7 @@ fn boards_that_no_run_makes_written_back() {
         dumps.assert_came(policy, 1);
         dumps.assert_wide(policy, if policy == BARE { [25, 0] } else { [0, 25] });
     }
+    dumps.assert_half(&[BARE, WEAK, DEFAULT, STRONG, LIST, WAIT_FREE]);
     let dumps = written_back("boards of a round written back", 3_000, || {
         let round = dice.pick(&[0, 1, 6, 7, 8]);
         let board = board_of_a_round(&mut dice, round);
@@ -817,6 +844,7 @@ fn boards_that_no_run_makes_written_back() {
     });
     dumps.assert_came(DEFAULT, 10);
     dumps.assert_came(STRONG, 10);
+    dumps.assert_half(&[DEFAULT, STRONG]);
 }
 
 /// The worked script's board into every buffer up to its script's length and beyond, and the longest script.

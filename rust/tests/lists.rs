@@ -9,7 +9,7 @@ use common::denials::Denials;
 use common::dumps::{near_miss, Dumps};
 use common::lists::{near_call, odd_list, Cause};
 use common::reached::Flaw;
-use common::tables::board_with;
+use common::tables::{board_with, Calm, Unfit};
 use common::wide::Wide;
 use common::*;
 use reference::board::MOST_TUPLES;
@@ -146,6 +146,7 @@ fn lists_handed_in_written_back() {
     dumps.assert_came(LIST, 50);
     dumps.assert_wide(LIST, [0, 100]);
     dumps.assert_each(LIST, &Flaw::UNDER_4, 25);
+    dumps.assert_tables(LIST, (&[Unfit::NotEmpty], &[Calm::Untabled, Calm::UntabledMark]), 25);
 }
 
 /// Calls on announcements handed in: two of one seat, with the mark, of seats above n, of what is listed, with its shift or another.
@@ -324,4 +325,5 @@ fn announcements_handed_in_written_back() {
     let dumps = dumps_handed_in(25, 3_000, board_of_announcements, "boards of announcements");
     dumps.assert_came(WAIT_FREE, 50);
     dumps.assert_wide(WAIT_FREE, [0, 100]);
+    dumps.assert_tables(WAIT_FREE, (&[Unfit::NotEmpty], &[Calm::Untabled, Calm::UntabledMark]), 25);
 }

@@ -21,7 +21,8 @@ use reference::config::{BARE, DEFAULT, LIST, STRONG, WAIT_FREE, WEAK};
 use reference::fields::MOST_SEATS;
 use reference::list::LAST_POSITION;
 use reference::records::{record_of, LONGEST_RECORD};
-use reference::script::LONGEST_SCRIPT;
+use reference::script::{run, LONGEST_SCRIPT};
+use reference::tabled;
 use reference::{
     Answer, AnswerKind, Board, Call, Config, Field, Kind, Offset, Phase, Refusal, Seat, Step, Tuple,
 };
@@ -191,6 +192,7 @@ impl Run {
     fn script(&self, dice: &mut Dice, counts: &mut Counts) {
         let mut buffer = vec![0xA5; 16 * self.script.len() + 64];
         let length = compare_script(&self.script, &buffer).unwrap();
+        assert!(tabled::run(&self.script) == run(&self.script), "by the table: {:02X?}", self.script);
         for room in [length, length - 1, dice.below(length as u64) as usize, length + 9] {
             buffer.resize(room, 0x5A);
             _ = compare_lent(&self.script, &buffer);

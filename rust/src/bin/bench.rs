@@ -1,5 +1,7 @@
 //! The proved library and the plain Rust version side by side: same inputs, interleaved, medians of many rounds. Where a board is handed in
-//! (b, d, f and g) both sides test that it is well formed, at every call; in scripts (c and e), whose board nobody else writes, neither does.
+//! (b, d, f and the first rows of g) both sides test that it is well formed, at every call; in scripts (c, e and the other rows of g), whose
+//! board nobody else writes, neither does. Both answer from the board's table who proposed what; the plain version that the library is
+//! compared with goes on searching.
 //!
 //!     bench [the proved program board] [the Rust program board]
 //!
@@ -12,10 +14,11 @@ use std::process::{Command, Stdio};
 use std::time::{Duration, Instant};
 
 use reference::board::MOST_TUPLES;
-use reference::dump::{dump_into, LONGEST_DUMP};
+use reference::dump::LONGEST_DUMP;
 use reference::fields::MOST_SEATS;
 use reference::policy::LAST_ROUND;
 use reference::records::{read_record, record_of};
+use reference::tabled::{self, dump_into, run_into};
 use reference::{flat, script, sys};
 use reference::{Answer, Board, Call, Config, Field, Kind, Offset, Phase, Seat, Step, Tuple};
 
@@ -124,8 +127,8 @@ fn rounds_ours() -> usize {
     calls
 }
 
-/// The same, and the board in which they end.
-fn rounds_plain() -> (Board, usize) {
+/// The same by the plain version.
+fn rounds_plain() -> usize {
     let mut board = Board::fresh(FULL).expect("a sound set-up");
     let mut calls = 0;
     for round in 0..=LAST_ROUND {
@@ -137,7 +140,7 @@ fn rounds_plain() -> (Board, usize) {
         while seats.iter().any(|(_, due)| due.is_some()) {
             for (seat, due) in &mut seats {
                 if let Some(call) = due.take() {
-                    let answer = Answer::from(board.call(&call));
+                    let answer = Answer::from(tabled::call(&mut board, &call));
                     let (next, step) = seat.hand(&answer).expect("the board's answer fits");
                     *seat = next;
                     if let Step::Call(call) = step {
@@ -149,7 +152,7 @@ fn rounds_plain() -> (Board, usize) {
         }
     }
     assert_eq!(board.count, MOST_TUPLES);
-    (board, calls)
+    calls
 }
 
 /// A bare board filled with tuples, then rdp and cas in turn up to the longest script.
@@ -204,6 +207,27 @@ fn decision(round: u64, offset: u64, members: u64) -> Call {
     Call::cas(1, Tuple::decision_template(round), Tuple::decision(round, offset, (1 << members) - 1))
 }
 
+/// A board of so many tuples: rounds in which all seats have proposed and one has decided, with all of one offset, or with four or fewer of
+/// each for the mark; at last what is left of a round. And a cas in the last round, with as many seats as it needs.
+fn decided(count: usize, mark: bool) -> (Board, Call) {
+    let mut board = Board::fresh(FULL).expect("a sound set-up");
+    let offset = |seat: u64| if mark { 1 + seat % 8 } else { 81 };
+    let cas = |round| match mark {
+        true => decision(round, Offset::MARK, FULL.n - FULL.t),
+        false => decision(round, 81, FULL.t + 1),
+    };
+    let turns = MOST_SEATS + 1;
+    for turn in 0..count as u64 {
+        let (round, seat) = (turn / turns, 1 + turn % turns);
+        let answer = match seat {
+            1..=MOST_SEATS => board.call(&Call::out(seat as u32, Tuple::proposal(round, seat, offset(seat)))),
+            _ => board.call(&cas(round)),
+        };
+        assert!(answer.is_ok(), "{answer:?}");
+    }
+    (board, cas((count as u64 - 1) / turns))
+}
+
 /// A seat that calls cas with the mark in the last round, having found as many as that needs.
 fn deciding() -> Seat {
     let (mut seat, _) =
@@ -222,11 +246,34 @@ const CALLS: usize = 100;
 /// The medians of as many calls, which both answer alike and leave the board as it is.
 fn calls_on(mut board: Board, call: Call) -> (Duration, Duration) {
     let (space, asked) = (flat::space(&board), flat::call(&call));
-    let answer = Answer::from(board.call(&call));
+    let answer = Answer::from(tabled::call(&mut board, &call));
     assert_eq!(sys::apply(space, asked), sys::Applied { reply: flat::reply(&answer), space });
     let ours = || (0..CALLS).for_each(|_| _ = black_box(sys::apply(black_box(space), asked)));
-    let plain = || (0..CALLS).for_each(|_| _ = black_box(board.call(black_box(&call))));
+    let plain = || (0..CALLS).for_each(|_| _ = black_box(tabled::call(&mut board, black_box(&call))));
     medians(101, ours, plain)
+}
+
+/// How many calls stand in a script behind those that make a board.
+const SCRIPTED: usize = 1_000;
+
+/// The medians of as many calls in a script, on the board that its first calls make: those of the whole script less those of its beginning.
+fn calls_in_a_script(board: &Board, call: &Call) -> (Duration, Duration) {
+    let mut begun = vec![0; LONGEST_DUMP];
+    let length = dump_into(board, &mut begun).expect("a board that a run makes");
+    begun.truncate(length);
+    let mut whole = begun.clone();
+    whole.extend(record_of(call).expect("a sound call").repeat(SCRIPTED));
+    let (mut text, mut other) = (vec![0; 2_000_000], vec![0; 2_000_000]);
+    let mut times = |script: &[u8]| {
+        let length = sys::script(script, &mut text).expect("a text");
+        assert_eq!(run_into(script, &mut other), Ok(length));
+        assert_eq!(text[..length], other[..length]);
+        let ours = || _ = black_box(sys::script(script, &mut text));
+        let plain = || _ = black_box(run_into(script, &mut other));
+        medians(41, ours, plain)
+    };
+    let ((ours, plain), (ours_begun, plain_begun)) = (times(&whole), times(&begun));
+    (ours.saturating_sub(ours_begun), plain.saturating_sub(plain_begun))
 }
 
 /// The medians of as many handings of a held mark.
@@ -252,7 +299,7 @@ fn main() {
     let bytes = records();
     line("a  reading 1,000 records", medians(301, || read_ours(&bytes), || read_plain(&bytes)));
 
-    let (decided, calls) = rounds_plain();
+    let calls = rounds_plain();
     assert_eq!(rounds_ours(), calls);
     let rounds = medians(41, || _ = black_box(rounds_ours()), || _ = black_box(rounds_plain()));
     line(
@@ -263,10 +310,10 @@ fn main() {
     let long = long_script();
     let (mut text, mut other) = (vec![0; 2_000_000], vec![0; 2_000_000]);
     let length = sys::script(&long, &mut text).expect("a text");
-    assert_eq!(script::run_into(&long, &mut other), Ok(length));
+    assert_eq!(run_into(&long, &mut other), Ok(length));
     assert_eq!(text, other);
     let ours = || _ = black_box(sys::script(&long, &mut text));
-    let plain = || _ = black_box(script::run_into(&long, &mut other));
+    let plain = || _ = black_box(run_into(&long, &mut other));
     line(
         "c  a script of 65,536 bytes, rdp and cas on a full board, which is not tested",
         medians(21, ours, plain),
@@ -291,13 +338,21 @@ fn main() {
     }
 
     let (few, many) = (FULL.t + 1, FULL.n - FULL.t);
-    let held = [
-        (format!("an offset with {few} seats"), decision(0, chosen(0, 1), few)),
-        (format!("the mark with {many} seats"), decision(LAST_ROUND, Offset::MARK, many)),
-    ];
-    for (what, call) in held {
-        let name = format!("g  {CALLS} cas of {what}, held, on {MOST_TUPLES} tuples, tested at each");
-        line(&name, calls_on(decided.clone(), call));
+    for (mark, what) in
+        [(false, format!("an offset with {few} seats")), (true, format!("the mark with {many} seats"))]
+    {
+        // Eight proposals bear neither.
+        let boards = [(8, "refused 13"), (32, "held"), (128, "held"), (MOST_TUPLES, "held")];
+        for (count, answer) in boards {
+            let (board, call) = decided(count, mark);
+            let name = format!("g  {CALLS} cas of {what}, {answer}, on {count} tuples, tested at each");
+            line(&name, calls_on(board, call));
+        }
+        for (count, answer) in boards {
+            let (board, call) = decided(count, mark);
+            let name = format!("g  1,000 cas of {what}, {answer}, on {count} tuples, in a script");
+            line(&name, calls_in_a_script(&board, &call));
+        }
     }
 
     let name = format!("h  {CALLS} answers handed to a seat that decides, {many} of {} found", FULL.n);

@@ -326,9 +326,13 @@ pub fn stranger(dice: &mut Dice, config: &Config) -> Tuple {
 
 /// Gives one place of a board's table another value.
 pub fn spoil_table(dice: &mut Dice, board: &mut Board) {
-    let place = dice.below(PLACES as u64) as usize;
+    // Half of the time one that has something.
+    let taken: Vec<usize> = (0..PLACES).filter(|place| board.table[*place] != 0).collect();
+    let any = taken.is_empty() || dice.one_in(2);
+    let place = if any { dice.below(PLACES as u64) as usize } else { dice.pick(&taken) };
     let code = board.table[place];
-    let values = [0, 1, 2, 3, code ^ 1, code.wrapping_sub(2), likely_offset(dice, &board.config), u64::MAX];
+    let values =
+        [0, 0, 0, 1, 2, 3, code ^ 1, code.wrapping_sub(2), likely_offset(dice, &board.config), u64::MAX];
     let others: Vec<u64> = values.into_iter().filter(|value| *value != code).collect();
     board.table[place] = dice.pick(&others);
 }

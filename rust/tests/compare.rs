@@ -275,7 +275,7 @@ fn aimed_call(dice: &mut Dice, board: &Board) -> Call {
         WAIT_FREE if !dice.one_in(8) => return announced::near_call(dice, board, seat),
         _ => {}
     }
-    let round = dice.pick(&[0, 0, 0, 0, 0, 1, 7, 8]);
+    let round = if dice.one_in(4) { dice.below(LAST_ROUND + 1) } else { dice.pick(&[0, 0, 0, 0, 1, 7, 8]) };
     let for_mark = board.config.policy == DEFAULT && dice.one_in(3);
     let offset = if for_mark { Offset::MARK } else { near_offset(dice, &board.config) };
     let own = if dice.one_in(6) { dice.below(MOST_SEATS + 2) } else { seat.into() };
@@ -450,12 +450,10 @@ fn board_of_a_round(dice: &mut Dice, round: u64) -> Board {
         tuples.push(Tuple::decision(round, likely_offset(dice, &config), 1));
     }
     if dice.one_in(8) {
-        let held = tuples.len();
         tuples.resize_with(MOST_TUPLES, || odd_tuple(dice, &config));
-        // These are settled behind the round's own.
+        // Those that would take the round's own places go elsewhere.
         if !odd {
             tables::settle(dice, &config, &mut tuples);
-            tuples[..held].rotate_left(held / 2);
         }
     }
     board_with(config, &tuples)
@@ -516,11 +514,12 @@ fn near_cas(dice: &mut Dice, board: &Board, round: u64) -> Call {
         // Those that proposed nothing, one or all of them; those that proposed something else.
         3 => bear | some_of(dice, all & !proposed, 1),
         4 => bear | all & !proposed,
+        // With t = 0 nobody bears the mark.
+        5..=8 if t == 0 && offset == Offset::MARK => proposed,
         5 | 6 => bear | some_of(dice, proposed & !bear, 1),
         7 => proposed,
         8 => (bear | 1 << dice.below(MOST_SEATS)) & Kind::Seats.last(),
         9 => dice.below(all + 1),
-        // With t = 0 nobody bears the mark.
         _ if bear == 0 => proposed,
         _ => bear,
     };
@@ -538,8 +537,7 @@ fn denials_and_their_causes() {
     for _ in 0..5_000 {
         let round = dice.pick(&[0, 1, 6, 7, 8]);
         let before = board_of_a_round(&mut dice, round);
-        tables.note(&before, before.check().is_err());
-        for _ in 0..4 {
+        for turn in 0..4 {
             let mut call = match dice.below(10) {
                 0..=3 => near_out(&mut dice, &before, round),
                 4 => Call::inp(1, Tuple::proposal_template(round, 1)),
@@ -551,6 +549,9 @@ fn denials_and_their_causes() {
             }
             let mut after = before.clone();
             let answer = compare_call(&mut after, &call);
+            if turn == 0 {
+                tables.note(&before, answer == Answer::from(Refusal::Unsound));
+            }
             hold_tabled(&before, &call, &answer, &after);
             denials.note(&before, &call, &answer);
             wide.note(&before, &call, &answer);

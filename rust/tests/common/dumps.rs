@@ -51,7 +51,7 @@ impl Dumps {
         let flaw = if refused.is_none() { flaw(board) } else { None };
         let expected = refused.or(flaw.map(|_| Refusal::Unreached));
         assert_eq!(answer.as_ref().err(), expected.as_ref(), "{flaw:?} in {board:?}");
-        self.tables.note(board, unsound.is_some());
+        self.tables.note(board, answer == Err(Refusal::Unsound));
         match &answer {
             Ok(script) => {
                 // The other lengths for every small board, and for every eighth of the larger ones.

@@ -93,8 +93,6 @@ impl Unfit {
         [SameAgain, OtherAgain, Mark, Changed, Missing, Added, AboveN, OtherRound];
     pub const UNDER_3: [Unfit; 9] =
         [SameAgain, OtherAgain, Mark, NoChoice, Changed, Missing, Added, AboveN, OtherRound];
-    /// Of these, the ones whose table is as it should be.
-    pub const TWICE_OR_NONE: [Unfit; 3] = [SameAgain, OtherAgain, Mark];
 
     /// Those of a policy.
     pub fn under(policy: u64) -> &'static [Unfit] {

@@ -4,6 +4,7 @@ use mathlib.Core.Bool.{true, cond}
 use borrow.Table.Steps.{cases}
 use Rattle.calls.specs.declared.effect.Effect.{Effect}
 use Rattle.calls.specs.Effects.{refuses}
+use Rattle.calls.specs.RunLaws.{JudgedFound}
 use Rattle.calls.specs.Turns.{behindFault, firstRefusal, judgedBy, searched, judged}
 use Rattle.policy.specs.Policies.{verdictOn, verdict}
 use Rattle.policy.specs.Verdicts.{demand}
@@ -29,9 +30,9 @@ module _ (space : Space) (call : Call) (formed : wellFormed space ≡ true) wher
       (λ k. rw k)
   by-fault (Present why) = refl
 
-  pub judged-found : judged space call ≡ searched space call
-  unfolding judged searched firstRefusal
-  judged-found = rw (formed-bounded space formed, by-fault (callFault call))
+pub judged-found : JudgedFound
+unfolding judged searched firstRefusal
+judged-found space call formed = rw (formed-bounded space formed, by-fault space call formed (callFault call))
 
 -- so where a space that is not well formed is refused, it is all one
 pub found-tested : (space : Space) (call : Call)

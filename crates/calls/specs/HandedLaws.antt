@@ -1,4 +1,4 @@
--- Boards that no run makes, which may be handed in all the same: what policies 2 to 5 say there, row by row. n is 4 and t is 1; under policy 3 k is 2.
+-- Boards that no run makes, which may be handed in all the same: what policies 4 and 5 say there, row by row; under 2 and 3 such boards are refused 1. n is 4 and t is 1; under policy 3 k is 2.
 use mathlib.Core.Path.{_≡_}
 use Prim.Native.Nat.{ℕ}
 use mathlib.Core.List.{List, [], _∷_, map}
@@ -33,9 +33,9 @@ refusedAll config tuples call = applied (spaceOf config tuples) call .reply .out
 abbrev pub marked : List Tuple
 marked = proposal 0 1 0 ∷ proposal 0 2 81 ∷ proposal 0 3 81 ∷ proposal 0 4 11 ∷ []
 
--- process 1 has 5 (code 11) there, which is no choice of two, process 2 a mark, and 3 and 4 propose 1 (code 3)
+-- process 1 has 5 (code 11) there, which is no choice of two, and 3 and 4 propose 1 (code 3)
 abbrev pub unchosen : List Tuple
-unchosen = proposal 0 1 11 ∷ proposal 0 2 0 ∷ proposal 0 3 3 ∷ proposal 0 4 3 ∷ []
+unchosen = proposal 0 1 11 ∷ proposal 0 3 3 ∷ proposal 0 4 3 ∷ []
 
 -- ---- policies 4 and 5
 

@@ -31,7 +31,8 @@ use Rattle.tuple.specs.Refusals.{refusal}
 -- what becomes of the tuples, carried out: out and an inserted cas append the entry, inp takes a tuple off and the rest keeps its order
 pub record CarriedRule (config : Config) (tuples : List Tuple) (entry : Tuple) : Type 0 where
   pub append : length tuples < 256 → carriedOut (spaceOf config tuples) entry Append ≡ spaceOf config (tuples ++ (entry ∷ []))
-  pub remove : (i : ℕ) → i < length tuples → length tuples ≤ 256 → hasProposals config ≡ false → carriedOut (spaceOf config tuples) entry (Remove i) ≡ spaceOf config (without i tuples)
+  pub remove : (i : ℕ) → i < length tuples → length tuples ≤ 256 → hasProposals config ≡ false
+      → carriedOut (spaceOf config tuples) entry (Remove i) ≡ spaceOf config (without i tuples)
 
 abbrev pub CarriedRules : Type 0
 CarriedRules = (config : Config) (tuples : List Tuple) (entry : Tuple) → CarriedRule config tuples entry

@@ -7,7 +7,7 @@ use Prim.Native.Nat.{ℕ, _+_, _≤_, _<_}
 use lib.ListN.{length, getD}
 use Rattle.calls.specs.Counts.{addition, removal, additions, removals}
 use Rattle.calls.specs.Effects.{refuses}
-use Rattle.calls.specs.Turns.{Turn, judged, carriedBy, applied, turns, uncheckedFrom, last}
+use Rattle.calls.specs.Turns.{Turn, searched, judged, carriedBy, applied, turns, uncheckedFrom, last}
 use Rattle.policy.specs.declared.verdicts.Verdict.the-variants.{Permit}
 use Rattle.policy.specs.Policies.{verdictOn}
 use Rattle.policy.specs.Shapes.{isWeakEntry, isDecision, decidedCode}
@@ -15,7 +15,7 @@ use Rattle.space.specs.declared.config.Config.{Config}
 use Rattle.space.specs.declared.space.Space.{Space}
 use Rattle.space.specs.Configs.{sound, hasProposals}
 use Rattle.space.specs.Shapes.{roundOf, isProposal, processOf}
-use Rattle.space.specs.Spaces.{held, spaceOf, freshOf, Entries}
+use Rattle.space.specs.Spaces.{held, spaceOf, wellFormed, freshOf, Entries}
 use Rattle.space.specs.Tables.{tableOf, tabled}
 use Rattle.tuple.specs.declared.field.Tuple.{Tuple}
 use Rattle.tuple.specs.declared.field.Call.{Call}
@@ -23,6 +23,10 @@ use Rattle.tuple.specs.declared.reply.Outcome.{Outcome}
 use Rattle.tuple.specs.declared.reply.Outcome.the-variants.{Done, Found, Inserted, Refused}
 use Rattle.tuple.specs.Fields.{blankTuple}
 use Rattle.tuple.specs.Refusals.{refusal}
+
+-- on every well-formed space a call is judged by the table as by a search of the tuples
+abbrev pub JudgedFound : Type 0
+JudgedFound = (space : Space) (call : Call) → wellFormed space ≡ true → judged space call ≡ searched space call
 
 -- without the test of each place, calls from a fresh space make the same turns
 abbrev pub Unchecked : Type 0

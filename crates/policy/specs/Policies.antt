@@ -1,4 +1,4 @@
--- Document 01, "Policies", and document 02, 2.1, 2.6 and 2.7: the verdict of a space's policy on a call, by the policy's number.
+-- Document 01, "Policies", and document 02, 2.1, 2.6, 2.7 and 2.9: the verdict of a space's policy on a call, by the policy's number.
 use Prim.Native.Nat.{ℕ}
 use mathlib.Core.Bool.{cond}
 use mathlib.Core.List.{List}

@@ -1,5 +1,5 @@
 -- A well-formed space is the space of the tuples that it holds, and the space of entries that are not too many is well formed.
-use mathlib.Core.Path.{_≡_, refl, sym, ap, ap₂, _∙_}
+use mathlib.Core.Path.{_≡_, refl, sym, ap₂, _∙_}
 use Prim.Native.Nat.{ℕ, zero, suc, _-_, _≤_, _<_}
 use native.Mathlib.Omega.{arith}
 use mathlib.Core.Bool.{true, false, _&&_, and-eq-true-iff}
@@ -150,8 +150,7 @@ module _ (space : Space) (formed : wellFormed space ≡ true) where
       rw (left, ← blank) (take-append-drop (space .count) (space .tuples)) in
       let long = table-length (space .config) emptyTable (held space) ∙ empty-length (space .config) in
       let table = ext-getD 0 (tableOf (space .config) (held space)) (space .table) (long ∙ sym (typed .table)) (λ i below. sym (formed-table i (omega (arith, below, long)))) in
-      ap₂ (λ (n : ℕ) (l : List Tuple). record { config = space .config; count = n; tuples = l; table = tableOf (space .config) (held space) }) counted whole
-      ∙ ap (λ (l : List ℕ). record { config = space .config; count = space .count; tuples = space .tuples; table = l }) table
+      λ k. record { config = space .config; count = counted k; tuples = whole k; table = table k }
 
 pub tidy-formed : TidyFormed
 tidy-formed space typed formed = formed-same space formed typed

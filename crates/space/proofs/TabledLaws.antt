@@ -20,7 +20,7 @@ use Rattle.space.specs.Proposals.{offered, isSought, proposed, everyProp
 use Rattle.space.specs.Shapes.{roundOf, processOf, proposedCode}
 use Rattle.space.specs.Spaces.{held, wellFormed, tableSound}
 use Rattle.space.specs.TableLaws.{PlaceRules, Due, nth, Tabled, TabledRules}
-use Rattle.space.specs.Tables.{hasPlace, place, codeAt, belongs, emptyTable, tableOf, tabled, sameTable, proposedIn, backersIn, isAlone}
+use Rattle.space.specs.Tables.{hasPlace, place, codeAt, belongs, emptyTable, tableOf, tabled, sameTable, proposedIn, backersIn, isFew}
 use Rattle.space.proofs.ConfigLaws.{proposals-rule, sound-range}
 use Rattle.space.proofs.MemberLaws.{every-rule, counted-rule}
 use Rattle.space.proofs.MemberSteps.{every-same, counted-same}
@@ -186,10 +186,10 @@ module _ (space : Space) (formed : wellFormed space ≡ true) (rests : hasPropos
   unfolding backersIn
   some-backer r set w h = counted-rule (proposedIn (space .config) (space .table) (One w) r) (space .config .n) set h
 
-  calm : (r set : ℕ) → r ≤ 7 → (every (isAlone (space .config) (space .table) r set) (space .config .n) 1 set ≡ true) ↔ ((w : ℕ) → backers (space .config) (held space) r set w ≤ space .config .t)
-  unfolding isAlone
+  calm : (r set : ℕ) → r ≤ 7 → (every (isFew (space .config) (space .table) r set) (space .config .n) 1 set ≡ true) ↔ ((w : ℕ) → backers (space .config) (held space) r set w ≤ space .config .t)
+  unfolding isFew
   calm r set early =
-      let rule = every-rule (isAlone (space .config) (space .table) r set) (space .config .n) set in (
+      let rule = every-rule (isFew (space .config) (space .table) r set) (space .config .n) set in (
         λ h w. cases (ltb (space .config .t) (backersIn (space .config) (space .table) r set w))
             (λ e. let many = ltb-true (space .config .t) (backersIn (space .config) (space .table) r set w) e in
             let one = some-backer r set w (omega arith) in

@@ -85,13 +85,13 @@ unfoldable pub backersIn : Config → List ℕ → ℕ → ℕ → ℕ → ℕ
 backersIn config table round set w = counted (proposedIn config table (One w) round) (config .n) 1 set
 
 -- a member's code is proposed in the round by at most t members of the set
-unfoldable pub isAlone : Config → List ℕ → ℕ → ℕ → ℕ → Bool
-isAlone config table round set process = leb (backersIn config table round set (codeAt config table round process)) (config .t)
+unfoldable pub isFew : Config → List ℕ → ℕ → ℕ → ℕ → Bool
+isFew config table round set process = leb (backersIn config table round set (codeAt config table round process)) (config .t)
 
 abbrev pub byTable : Config → List ℕ → Asked
 byTable config table =
     record {
       taken = λ round process. not (eqb (codeAt config table round process) 0);
       every = λ sought round set. every (proposedIn config table sought round) (config .n) 1 set;
-      crowded = λ round set. not (every (isAlone config table round set) (config .n) 1 set);
+      crowded = λ round set. not (every (isFew config table round set) (config .n) 1 set);
     }

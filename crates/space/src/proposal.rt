@@ -1,4 +1,4 @@
-// What may be proposed and decided, and what is proposed in a round: the questions that the policies ask of a space.
+// What may be proposed and decided, and what is proposed in a round: the questions that the policies ask of a space, answered by a search, the plain way.
 ghost use mathlib.Core.Path.{_≡_};
 ghost use mathlib.Core.Bool.{cond, _&&_};
 ghost use lib.Dec.{eqb};

@@ -1,4 +1,4 @@
-// A space: its configuration and its tuples, oldest first, with blanks behind them.
+// A space: its configuration, its tuples, oldest first, with blanks behind them, and the table of what they propose.
 ghost use mathlib.Core.Path.{_≡_};
 ghost use Prim.Native.Nat.{_≤_};
 ghost use mathlib.Core.Bool.{cond};

@@ -6,7 +6,7 @@ ghost use lib.Dec.{eqb};
 ghost use Rattle.space.specs.declared.proposal.Sought.the-variants.{One};
 ghost use Rattle.space.specs.Bounds.{tablePlaces};
 ghost use Rattle.space.specs.Shapes.{roundOf, processOf};
-ghost use Rattle.space.specs.Tables.{hasPlace, place as place·, codeAt, belongs, entered, fitsTable, sameTable, proposedIn, backersIn, isAlone, byTable};
+ghost use Rattle.space.specs.Tables.{hasPlace, place as place·, codeAt, belongs, entered, fitsTable, sameTable, proposedIn, backersIn, isFew, byTable};
 use crate::bounds::PLACES;
 use crate::bounds::PROCESSES;
 use crate::bounds::ROUNDS;
@@ -198,7 +198,7 @@ fn backers_in(config: Config, table: &[u64; PLACES], round: u64, set: u64, code:
 }
 
 // Whether the lowest bit of what is left of a set is no member, or the code of its process is proposed in the round by at most t members of the set.
-fn is_calm(
+fn is_few(
     config: Config,
     table: &[u64; PLACES],
     round: u64,
@@ -206,7 +206,7 @@ fn is_calm(
     rest: u64,
     process: u64,
 ) -> bool
-    ensures { λ r. ⌜ r ≡ (eqb (rest % 2) 0 || isAlone config (now (table .entry)) round set process) ⌝ }
+    ensures { λ r. ⌜ r ≡ (eqb (rest % 2) 0 || isFew config (now (table .entry)) round set process) ⌝ }
 {
     if rest % 2 == 0 {
         return true;
@@ -226,7 +226,7 @@ pub fn crowded_in(config: Config, table: &[u64; PLACES], round: u64, set: u64) -
         if rest == 0 {
             return false;
         }
-        if !is_calm(config, table, round, set, rest, k + 1) {
+        if !is_few(config, table, round, set, rest, k + 1) {
             return true;
         }
         rest /= 2;

@@ -1,12 +1,12 @@
--- `space::table::is_calm` meets its contract: its tests are the definition's.
+-- `space::table::is_few` meets its contract: its tests are the definition's.
 use borrow.Author.Needs.{needs}
 use mathlib.Core.Path.{sym, _∙_, ap}
 use Prim.Native.Nat.{ℕ, _%_}
 use lib.Dec.{leb}
 use borrow.Author.Tests.{eq-eqb, ne-eqb}
-use Rattle.space.specs.Tables.{backersIn, isAlone}
-use Rattle.space.proofs.table.is_calm.Statement.{statement}
-use Rattle.space.proofs.table.is_calm.Tie as tie
+use Rattle.space.specs.Tables.{backersIn, isFew}
+use Rattle.space.proofs.table.is_few.Statement.{statement}
+use Rattle.space.proofs.table.is_few.Tie as tie
 
 returns : tie.Need-returns
 returns c = rw (eq-eqb _ _ (c .if1 .taken))
@@ -18,12 +18,12 @@ backers-in-requires : tie.Need-backers-in-requires
 backers-in-requires c κs = search needs
 
 returns-2 : tie.Need-returns-2
-unfolding isAlone
+unfolding isFew
 returns-2 c =
     let b = c .before in
     let a = b .before .before .before .args in
     ap (λ (k : ℕ). leb k (a .config .t)) (b .backers-in .ensures ∙ ap (backersIn (a .config) (a .table .now) (a .round) (a .set)) (b .before .code-at .ensures))
     ∙ sym (rw (ne-eqb (a .rest % 2) 0 (b .before .before .if1 .left)))
 
-pub is-calm-spec : {M : Type 1} → statement M
-is-calm-spec = tie.close (tie.spec returns code-at-requires backers-in-requires returns-2)
+pub is-few-spec : {M : Type 1} → statement M
+is-few-spec = tie.close (tie.spec returns code-at-requires backers-in-requires returns-2)

@@ -100,7 +100,8 @@ unfolding wellFormed bounded tableSound
 formed-of config tuples s lawful =
     let within : sound config && leb (length tuples) capacity ≡ true = and-eq-true-iff _ _ .1 (s, le-leb (length tuples) capacity (lawful .few)) in
     let places = places-sound (capacity - length tuples) tuples (lawful .entries) in
-    rw (within, places, held-of config tuples, lawful .table) (same-itself (tableOf config tuples))
+    let table : tableSound (spaceOf config tuples) ≡ true = rw (held-of config tuples, lawful .table) (same-itself (tableOf config tuples)) in
+    and-eq-true-iff _ _ .1 (and-eq-true-iff _ _ .1 (within, places), table)
 
 module _ (space : Space) (formed : wellFormed space ≡ true) where
   tests : (sound (space .config) ≡ true) × (space .count ≤ capacity) × (placesFrom (space .count) (space .tuples) ≡ true)

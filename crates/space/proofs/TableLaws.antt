@@ -83,7 +83,10 @@ module _ (config : Config) where
         → (offered config (proposedCode tuple) ≡ true) × (getD table (placeOf tuple) 0 ≡ 0)
     unfolding fitsTable codeAt
     fits-parts fits e =
-        let both = and-eq-true-iff _ _ .0 (rw (e, place-test (belongs-parts e .at)) at fits) in (both .0, eqb-true _ 0 (both .1))
+        let code = codeAt config table (roundOf tuple) (processOf tuple) in
+        let both = and-eq-true-iff (offered config (proposedCode tuple)) (eqb code 0) .0 (rw e at fits) in
+        let free : code ≡ 0 = eqb-true code 0 (both .1) in
+        (both .0, rw (place-test (belongs-parts e .at)) at free)
 
     pub fits-test : (belongs config tuple ≡ true → (offered config (proposedCode tuple) ≡ true) × (getD table (placeOf tuple) 0 ≡ 0)) → fitsTable config table tuple ≡ true
     unfolding fitsTable codeAt

@@ -16,7 +16,7 @@ use Rattle.space.specs.Configs.{hasProposals, known}
 use Rattle.space.specs.Proposals.{isSought}
 use Rattle.space.specs.Shapes.{isProposal, inRounds, roundOf, processOf, proposedCode}
 use Rattle.space.specs.Tables.{hasPlace, place, codeAt, sameFrom, sameTable, proposedIn}
-use Rattle.tuple.specs.declared.field.Tuple.{Tuple}
+use Rattle.tuple.proofs.NoFault.{between}
 
 -- ---- places
 
@@ -49,7 +49,7 @@ place-same {r = r} {s = s} a b same =
 
 pub known-some : (config : Config) (process : ℕ) → known config process ≡ true → (1 ≤ process) × (process ≤ config .n)
 unfolding known
-known-some config process h = let both = and-eq-true-iff _ _ .0 h in (leb-true 1 process (both .0), leb-true process (config .n) (both .1))
+known-some config process h = between 1 process (config .n) h
 
 -- ---- what a place that was looked up holds
 

@@ -14,9 +14,9 @@ use Rattle.record.specs.FirstFault.BeyondKind.{word, offset, set}
 use Rattle.record.specs.FirstFault.FieldStops.{head-unread, unknown-head, undefined-field, value-unread, beyond-kind}
 use Rattle.record.specs.FirstFault.Past.{none, more}
 use Rattle.record.specs.FirstFault.TupleStops.{count-unread, miscounted, at-field}
-use Rattle.record.specs.FirstFault.CallStops.{process-unread, code-unread, unknown-code, in-template, in-entry-of-out, in-entry-of-cas}
+use Rattle.record.specs.FirstFault.CallStops.{process-unread, process-beyond, code-unread, unknown-code, in-template, in-entry-of-out, in-entry-of-cas}
 use Rattle.record.specs.Reading.{place, numberStep, readNumber, valueAt, fieldAt, fieldsAt, tupleAt, partAt, partsAt, isCode, bodyAt, callAt}
-use Rattle.tuple.specs.Bounds.{largestWord, largestCode, largestSet}
+use Rattle.tuple.specs.Bounds.{largestProcess, largestWord, largestCode, largestSet}
 use Rattle.tuple.specs.Faults.{usesTemplate, usesEntry}
 use Rattle.tuple.specs.Fields.{largestOf, blankField, blankTuple, blankCall}
 use Rattle.tuple.specs.Refusals.{refusal}
@@ -82,12 +82,14 @@ module _ (s : List ℕ) where
   call-stops : (at r : ℕ) → CallStops s at r → callAt s at ≡ record { next = Refused (refusal r); call = blankCall }
   unfolding callAt bodyAt partsAt partAt usesTemplate usesEntry
   call-stops at r (process-unread q why) = rw (number-stops at q why)
-  call-stops at r (code-unread process next q e why) = rw (number-read at process next e, number-stops next q why)
+  call-stops at r (process-beyond process next e above) = rw (number-read at process next e, lt-leb process largestProcess above)
+  call-stops at r (code-unread process next q e small why) = rw (number-read at process next e, le-leb process largestProcess small, number-stops next q why)
   call-stops at r (unknown-code code next coded never) =
-      rw (number-read at _ _ (coded .first), number-read (coded .behind) code next (coded .second), unknown code never)
+      rw (number-read at _ _ (coded .first), le-leb _ largestProcess (coded .small), number-read (coded .behind) code next (coded .second), unknown code never)
   call-stops at r (in-template code next q coded low high why) =
       rw (
         number-read at _ _ (coded .first),
+        le-leb _ largestProcess (coded .small),
         number-read (coded .behind) code next (coded .second),
         le-leb 1 code (omega arith),
         le-leb code 4 high,
@@ -95,9 +97,9 @@ module _ (s : List ℕ) where
         tuple-stops false next q why,
       )
   call-stops at r (in-entry-of-out next q coded why) =
-      rw (number-read at _ _ (coded .first), number-read (coded .behind) 1 next (coded .second), tuple-stops true next q why)
+      rw (number-read at _ _ (coded .first), le-leb _ largestProcess (coded .small), number-read (coded .behind) 1 next (coded .second), tuple-stops true next q why)
   call-stops at r (in-entry-of-cas next start q coded e why) =
-      rw (number-read at _ _ (coded .first), number-read (coded .behind) 4 next (coded .second), e, tuple-stops true start q why)
+      rw (number-read at _ _ (coded .first), le-leb _ largestProcess (coded .small), number-read (coded .behind) 4 next (coded .second), e, tuple-stops true start q why)
 
 pub first-faults : FirstFaults
 first-faults s at r =

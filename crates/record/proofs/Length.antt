@@ -1,84 +1,173 @@
--- A record has at most 80 bytes, and one has exactly 80: of each part the most bytes, from varint's widths and what no fault tells.
+-- A record has at most 140 bytes, and one has exactly 140; one whose counts are of 32 bits has at most 80, and reads as before. Of each part the most bytes,
+-- by the most bytes of a value, from varint's widths and what no fault tells.
 use mathlib.Core.Path.{_≡_, refl, ap}
-use Prim.Native.Nat.{ℕ, _*_, _≤_, _<_}
+use Prim.Native.Nat.{ℕ, zero, suc, _+_, _*_, _≤_, _<_}
+use native.Mathlib.Nat.{mul-add, mul-le-mul-left}
 use native.Mathlib.Omega.{arith}
-use mathlib.Core.Bool.{Bool, true, false, cond}
+use mathlib.Core.Bool.{Bool, true, false, false≢true, cond}
 use mathlib.Core.List.{List, [], _∷_}
-use lib.ListN.{length, take, replicate, length-append, length-take}
+use lib.ListN.{length, take, getD, replicate, length-append, length-take}
+use lib.Dec.{eqb}
+use borrow.Author.Tests.{eqb-true, eqb-false}
+use borrow.Table.Steps.{cases}
 use Rattle.record.specs.Heads.{headNumber}
-use Rattle.record.specs.Writing.{fieldBytes, fieldsBytes, tupleBytes, partBytes, callBytes}
-use Rattle.record.specs.Laws.{AtMost, Attained}
-use Rattle.record.proofs.NumberLaws.{kind-most}
+use Rattle.record.specs.Writing.{fieldBytes, fieldsBytes, tupleBytes, partBytes, callBytes, Typed}
+use Rattle.record.specs.Laws.{AtMost, Attained, OldTuple, OldRecords}
+use Rattle.record.proofs.ReadBack.{read-back}
+use Rattle.tuple.proofs.FaultRules.{template-rule, entry-rule}
 use Rattle.tuple.proofs.NoFault.{known-head, PassedField, fields-sound, tuple-sound, call-sound}
 use Rattle.varint.proofs.ReadingLaws.{picked}
 use Rattle.tuple.specs.declared.fault.Fault.the-variants.{Absent}
 use Rattle.tuple.specs.declared.field.Field.{Field}
 use Rattle.tuple.specs.declared.field.Tuple.{Tuple}
 use Rattle.tuple.specs.declared.field.Call.{Call}
-use Rattle.tuple.specs.Fields.{count, defined, cas, largestOf}
-use Rattle.tuple.specs.Bounds.{places, largestCount}
+use Rattle.tuple.specs.Fields.{word, count, offset, processSet, defined, cas, largestOf, blankField}
+use Rattle.tuple.specs.Bounds.{places, largestProcess, largestCount}
 use Rattle.tuple.specs.Faults.{knownHead, isDefined, fieldFault, fieldsFault, tupleFault, partFault, usesTemplate, usesEntry, usedFault, placeBlank, restFrom, restBlank, callFault}
-use Rattle.varint.specs.Reading.{largest}
 use Rattle.varint.specs.Writing.{groupsOf, bytesOf, widthOf}
-use Rattle.varint.proofs.WritingLaws.{bytes-last, width-of-largest}
+use Rattle.varint.proofs.WritingLaws.{bytes-last, width-most, width-of-few}
 
 pub width-one : (value : ℕ) → value < 128 → widthOf value ≡ 1
 width-one value h = ap length (bytes-last value h)
 
--- a head of one byte, and a value of at most five
-pub field-most : {entry : Bool} {field : Field} → PassedField entry field → length (fieldBytes field) ≤ 6
-unfolding fieldBytes
-field-most {field = field} sound =
-    let known = known-head field (sound .known) in
-    let value = cond (isDefined field) (bytesOf (field .value)) [] in
-    let most : length value ≤ 5 =
-    picked (λ (l : List ℕ). length l ≤ 5) (isDefined field)
-    (λ d. width-of-largest (field .value) (omega (arith, sound .small d, kind-most (field .kind))))
-    (λ d. omega arith) in
-    simp length-append (omega (arith, width-one (headNumber field) (omega arith)))
+-- each given value has at most so many bytes
+abbrev Narrow : ℕ → List Field → Type 0
+Narrow most [] = Unit {0}
+Narrow most (field ∷ fields) = (isDefined field ≡ true → widthOf (field .value) ≤ most) × Narrow most fields
 
-pub fields-most : (entry : Bool) (fields : List Field) → fieldsFault entry fields ≡ Absent → length (fieldsBytes fields) ≤ 6 * length fields
-unfolding fieldsBytes
-fields-most entry [] h = omega arith
-fields-most entry (field ∷ fields) h =
-    let sound = fields-sound entry field fields h in
-    simp length-append (omega (arith, field-most (sound .0), fields-most entry fields (sound .1)))
+-- any has at most ten
+narrow-any : (fields : List Field) → Narrow 10 fields
+narrow-any [] = tt
+narrow-any (field ∷ fields) = (λ d. width-most (field .value), narrow-any fields)
 
--- a count of one byte, and at most six fields
-pub tuple-most : (entry : Bool) (tuple : Tuple) → tupleFault entry tuple ≡ Absent → length (tupleBytes tuple) ≤ 37
-unfolding tupleBytes
-tuple-most entry tuple h =
-    let sound = tuple-sound entry tuple h in
-    let fields = take (tuple .count) (tuple .fields) in
-    simp length-append (omega (arith, width-one (tuple .count) (omega arith), length-take (tuple .count) (tuple .fields), fields-most entry fields (sound .fields)))
+-- by the most bytes of a value
+module _ (most : ℕ) where
+  -- a head of one byte, and a value
+  field-within : {entry : Bool} {field : Field} → PassedField entry field → (isDefined field ≡ true → widthOf (field .value) ≤ most)
+      → length (fieldBytes field) ≤ 1 + most
+  unfolding fieldBytes
+  field-within {field = field} sound narrow =
+      let known = known-head field (sound .known) in
+      let few : length (cond (isDefined field) (bytesOf (field .value)) []) ≤ most =
+      picked (λ (l : List ℕ). length l ≤ most) (isDefined field) narrow (λ d. omega arith) in
+      simp length-append (omega (arith, width-one (headNumber field) (omega arith)))
 
-part-most : (used entry : Bool) (tuple : Tuple) → partFault tuple used entry ≡ Absent → length (partBytes used tuple) ≤ 37
-unfolding partBytes partFault
-part-most true entry tuple h = tuple-most entry tuple h
-part-most false entry tuple h = omega arith
+  fields-within : (entry : Bool) (fields : List Field) → fieldsFault entry fields ≡ Absent → Narrow most fields
+      → length (fieldsBytes fields) ≤ (1 + most) * length fields
+  unfolding fieldsBytes
+  fields-within entry [] h narrow = omega arith
+  fields-within entry (field ∷ fields) h narrow =
+      let sound = fields-sound entry field fields h in
+      simp length-append
+      (omega (arith, mul-add (1 + most) 1 (length fields), field-within (sound .0) (narrow .0), fields-within entry fields (sound .1) (narrow .1)))
 
--- a process of at most five bytes, a code of one, and two parts
+  -- a count of one byte, and at most six fields
+  tuple-within : (entry : Bool) (tuple : Tuple) → tupleFault entry tuple ≡ Absent → Narrow most (take (tuple .count) (tuple .fields))
+      → length (tupleBytes tuple) ≤ 1 + (1 + most) * 6
+  unfolding tupleBytes
+  tuple-within entry tuple h narrow =
+      let sound = tuple-sound entry tuple h in
+      let fields = take (tuple .count) (tuple .fields) in
+      let six : length fields ≤ 6 = omega (arith, length-take (tuple .count) (tuple .fields), sound .few) in
+      simp length-append
+      (omega (arith, width-one (tuple .count) (omega arith), fields-within entry fields (sound .fields) narrow, mul-le-mul-left (1 + most) six))
+
+  part-within : (used entry : Bool) (tuple : Tuple) → partFault tuple used entry ≡ Absent → (used ≡ true → Narrow most (take (tuple .count) (tuple .fields)))
+      → length (partBytes used tuple) ≤ 1 + (1 + most) * 6
+  unfolding partBytes partFault
+  part-within true entry tuple h narrow = tuple-within entry tuple h (narrow refl)
+  part-within false entry tuple h narrow = omega arith
+
+  -- a process of at most five bytes, a code of one, and two parts
+  call-within : (call : Call) → Typed call → callFault call ≡ Absent
+      → (usesTemplate (call .code) ≡ true → Narrow most (take (call .template .count) (call .template .fields)))
+      → (usesEntry (call .code) ≡ true → Narrow most (take (call .entry .count) (call .entry .fields)))
+      → length (callBytes call) ≤ 6 + 2 * (1 + (1 + most) * 6)
+  unfolding callBytes
+  call-within call typed h template entry =
+      let sound = call-sound call h in
+      simp length-append
+      (omega (
+        arith,
+        width-of-few (call .process) (typed .process),
+        width-one (call .code) (omega arith),
+        part-within (usesTemplate (call .code)) false (call .template) (sound .template .fault) template,
+        part-within (usesEntry (call .code)) true (call .entry) (sound .entry .fault) entry,
+      ))
+
+-- ---- any value
+
+pub field-most : {entry : Bool} {field : Field} → PassedField entry field → length (fieldBytes field) ≤ 11
+field-most {field = field} sound = field-within 10 sound (λ d. width-most (field .value))
+
+pub fields-most : (entry : Bool) (fields : List Field) → fieldsFault entry fields ≡ Absent → length (fieldsBytes fields) ≤ 11 * length fields
+fields-most entry fields h = fields-within 10 entry fields h (narrow-any fields)
+
+pub tuple-most : (entry : Bool) (tuple : Tuple) → tupleFault entry tuple ≡ Absent → length (tupleBytes tuple) ≤ 67
+tuple-most entry tuple h = tuple-within 10 entry tuple h (narrow-any (take (tuple .count) (tuple .fields)))
+
 pub at-most : AtMost
-unfolding callBytes
 at-most call typed h =
+    call-within 10 call typed h
+    (λ u. narrow-any (take (call .template .count) (call .template .fields)))
+    (λ u. narrow-any (take (call .entry .count) (call .entry .fields)))
+
+-- ---- counts of 32 bits
+
+-- a value of another kind is of 32 bits
+kind-few : (kind : ℕ) → (kind ≡ 2 → ⊥) → largestOf kind ≤ 4_294_967_295
+unfolding largestOf
+kind-few kind other =
+    picked Few (eqb kind word) (λ e. omega arith)
+    (λ e. picked Few (eqb kind count) (λ e. absurd (other (eqb-true kind count e)))
+    (λ e. picked Few (eqb kind offset) (λ e. omega arith)
+    (λ e. picked Few (eqb kind processSet) (λ e. omega arith) (λ e. omega arith))))
+  where
+    Few : ℕ → Type 0
+    Few n = n ≤ 4_294_967_295
+
+-- so each given value has at most five bytes
+value-few : {entry : Bool} (field : Field) → PassedField entry field → (field .kind ≡ 2 → field .state ≡ 0 → field .value ≤ 4_294_967_295)
+    → isDefined field ≡ true → widthOf (field .value) ≤ 5
+value-few field sound old d =
+    width-of-few (field .value)
+    (cases (eqb (field .kind) 2)
+    (λ e. old (eqb-true (field .kind) 2 e) (eqb-true (field .state) 0 d))
+    (λ e. omega (arith, sound .small d, kind-few (field .kind) (eqb-false (field .kind) 2 e))))
+
+narrow-old : (entry : Bool) (n : ℕ) (fields : List Field) → fieldsFault entry (take n fields) ≡ Absent
+    → ((i : ℕ) → i < n → getD fields i blankField .kind ≡ 2 → getD fields i blankField .state ≡ 0 → getD fields i blankField .value ≤ 4_294_967_295)
+    → Narrow 5 (take n fields)
+narrow-old entry zero fields h old = tt
+narrow-old entry (suc n) [] h old = tt
+narrow-old entry (suc n) (field ∷ fields) h old =
+    let sound = fields-sound entry field (take n fields) h in
+    (value-few field (sound .0) (old 0 (omega arith)), narrow-old entry n fields (sound .1) (λ i below. old (suc i) (omega arith)))
+
+part-old : (used entry : Bool) (tuple : Tuple) → partFault tuple used entry ≡ Absent → (used ≡ true → OldTuple tuple)
+    → used ≡ true → Narrow 5 (take (tuple .count) (tuple .fields))
+unfolding partFault
+part-old true entry tuple h old u = narrow-old entry (tuple .count) (tuple .fields) (tuple-sound entry tuple h .fields) (old u)
+part-old false entry tuple h old u = absurd (false≢true u)
+
+pub old-records : OldRecords
+old-records call s rest at typed h old e =
     let sound = call-sound call h in
-    simp length-append
-    (omega (
-      arith,
-      width-of-largest (call .process) (typed .process),
-      width-one (call .code) (omega arith),
-      part-most (usesTemplate (call .code)) false (call .template) (sound .template .fault),
-      part-most (usesEntry (call .code)) true (call .entry) (sound .entry .fault),
-    ))
+    record {
+      short = call-within 5 call typed h
+          (part-old (usesTemplate (call .code)) false (call .template) (sound .template .fault) (λ u. old .template (template-rule call .0 u)))
+          (part-old (usesEntry (call .code)) true (call .entry) (sound .entry .fault) (λ u. old .entry (entry-rule call .0 u)));
+      reads = read-back call s rest at typed h e;
+    }
 
 -- ---- the longest
 
--- six fields of six bytes each
+-- six fields of eleven bytes each
 abbrev longTuple : Tuple
 longTuple = record { count = places; fields = replicate places (record { kind = count; state = defined; value = largestCount }) }
 
 abbrev longCall : Call
-longCall = record { process = largest; code = cas; template = longTuple; entry = longTuple }
+longCall = record { process = largestProcess; code = cas; template = longTuple; entry = longTuple }
 
 pub attained : Attained
 unfolding callBytes partBytes tupleBytes fieldsBytes fieldBytes bytesOf groupsOf

@@ -8,7 +8,7 @@ use Rattle.record.specs.Reading.{numberStep, readNumber}
 use Rattle.tuple.specs.Fields.{word, count, offset, processSet, largestOf}
 use Rattle.varint.specs.declared.Number.{Number}
 use Rattle.varint.specs.declared.Number.the-variants.{Value, Cut, Overlong}
-use Rattle.varint.specs.Reading.{further, largest, numberAt}
+use Rattle.varint.specs.Reading.{lastGroup, further, largest, numberAt}
 use Rattle.varint.proofs.ReadingLaws.{greatest, picked, Within, number-within}
 
 step-most : (n : Number) → Within largest n → numberStep n .value ≤ largest
@@ -19,7 +19,7 @@ step-most Overlong h = omega arith
 
 pub number-most : (s : List ℕ) (at : ℕ) → readNumber s at .value ≤ largest
 unfolding readNumber numberAt greatest
-number-most s at = step-most (numberAt s at) (number-within further (drop at s) at)
+number-most s at = step-most (numberAt s at) (number-within lastGroup further (drop at s) at)
 
 -- every kind's values are numbers that varint holds
 pub kind-most : (kind : ℕ) → largestOf kind ≤ largest

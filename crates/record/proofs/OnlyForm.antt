@@ -7,7 +7,7 @@ use mathlib.Core.List.{List, [], _++_, append-assoc, append-nil}
 use lib.ListN.{length, take, drop, replicate, length-append, length-replicate}
 use lib.Seq.{take-at}
 use lib.Dec.{leb, eqb}
-use borrow.Author.Tests.{eqb-true}
+use borrow.Author.Tests.{leb-true, eqb-true}
 use Rattle.record.specs.declared.head.Head.{Head}
 use Rattle.record.specs.declared.head.Head.the-variants.{Known, Unknown}
 use Rattle.record.specs.declared.reader.Next.{Next}
@@ -29,7 +29,7 @@ use Rattle.tuple.specs.declared.field.Tuple.{Tuple}
 use Rattle.tuple.specs.declared.field.Call.{Call}
 use Rattle.tuple.specs.declared.refusal.Refusal.{Refusal}
 use Rattle.tuple.specs.Fields.{defined, out, cas, largestOf, blankField}
-use Rattle.tuple.specs.Bounds.{places}
+use Rattle.tuple.specs.Bounds.{places, largestProcess}
 use Rattle.tuple.specs.Faults.{knownHead, fieldFault, fieldsFault, tupleFault, partFault, usesTemplate, usesEntry, usedFault, isBlank, placeBlank, restFrom, restBlank, callFault}
 use Rattle.tuple.proofs.FaultLaws.{defined-fault}
 use Rattle.varint.specs.declared.Number.{Number}
@@ -136,15 +136,15 @@ code-known : (code : ℕ) → isCode code ≡ true → leb 1 code && leb code 4 
 code-known code e = e
 
 -- a process, a code and the parts that the code has are a call
-call-read : {call : Call} {s : List ℕ} {at at₁ at₂ at₃ next : ℕ} → leb out (call .code) && leb (call .code) cas ≡ true
+call-read : {call : Call} {s : List ℕ} {at at₁ at₂ at₃ next : ℕ} → call .process ≤ largestProcess → leb out (call .code) && leb (call .code) cas ≡ true
     → NumberRead s at (call .process) at₁ → NumberRead s at₁ (call .code) at₂
     → PartRead (usesTemplate (call .code)) false s at₂ (call .template) at₃ → PartRead (usesEntry (call .code)) true s at₃ (call .entry) next
     → Read s at next call
 unfolding callBytes callFault usedFault
-call-read e process code template entry =
+call-read few e process code template entry =
     let took = took-both (process .took) (took-both (code .took) (took-both (template .took) (entry .took))) in
     record {
-      typed = record { process = process .most; template = template .six; entry = entry .six };
+      typed = record { process = few; template = template .six; entry = entry .six };
       sound = rw (e, template .sound .fault, entry .sound .fault, template .sound .rest, entry .sound .rest);
       taken = took .taken;
       bytes = took .stand;
@@ -232,15 +232,15 @@ module _ (s : List ℕ) (bytes : Bytes s) where
   part-form true entry at = tuple-form entry at
   part-form false entry at = record { took = took-none; six = refl; sound = record { fault = refl; rest = blanks-rest places } }
 
-  parts-form : {process code at at₁ at₂ : ℕ} → leb out code && leb code cas ≡ true → NumberRead s at process at₁ → NumberRead s at₁ code at₂
+  parts-form : {process code at at₁ at₂ : ℕ} → process ≤ largestProcess → leb out code && leb code cas ≡ true → NumberRead s at process at₁ → NumberRead s at₁ code at₂
       → CallForm s at (partsAt process code s at₂)
   unfolding partsAt
-  parts-form {code = code} {at = at} {at₂ = at₂} e first second =
+  parts-form {code = code} {at = at} {at₂ = at₂} few e first second =
       let template = partAt (usesTemplate code) false s at₂ in
       reads-onward (CallForm s at) (template .next) noCall (part-form (usesTemplate code) false at₂)
       (λ at₃ third. let entry = partAt (usesEntry code) true s at₃ in
       reads-onward (CallForm s at) (entry .next) noCall (part-form (usesEntry code) true at₃)
-      (λ next fourth. call-read e first second third fourth)
+      (λ next fourth. call-read few e first second third fourth)
       (λ refusal. tt))
       (λ refusal. tt)
 
@@ -249,12 +249,14 @@ module _ (s : List ℕ) (bytes : Bytes s) where
   call-form at =
       let process = readNumber s at in
       reads-onward (CallForm s at) (process .next) noCall (number-form at)
-      (λ at₁ first. let code = readNumber s at₁ in
+      (λ at₁ first. picked (CallForm s at) (leb (process .value) largestProcess)
+      (λ few. let code = readNumber s at₁ in
       reads-onward (CallForm s at) (code .next) noCall (number-form at₁)
       (λ at₂ second. picked (CallForm s at) (isCode (code .value))
-      (λ e. parts-form (code-known (code .value) e) first second)
+      (λ e. parts-form (leb-true (process .value) largestProcess few) (code-known (code .value) e) first second)
       (λ e. tt))
       (λ refusal. tt))
+      (λ e. tt))
       (λ refusal. tt)
 
 pub only-form : OnlyForm

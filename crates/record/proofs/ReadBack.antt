@@ -29,7 +29,7 @@ use Rattle.tuple.specs.declared.field.Tuple.{Tuple}
 use Rattle.tuple.specs.declared.field.Call.{Call}
 use Rattle.tuple.specs.Refusals.{refusal}
 use Rattle.tuple.specs.Fields.{defined, largestOf}
-use Rattle.tuple.specs.Bounds.{places}
+use Rattle.tuple.specs.Bounds.{places, largestProcess}
 use Rattle.tuple.specs.Faults.{isDefined, fieldsFault, tupleFault, partFault, usesTemplate, usesEntry, placeBlank, restFrom, restBlank, callFault}
 use Rattle.varint.specs.Reading.{largest}
 use Rattle.varint.specs.Writing.{bytesOf, widthOf}
@@ -141,7 +141,8 @@ read-back call s rest at typed h e =
     let behind = parts s code (template ++ entry) rest (at + length process) (stands .1) in
     let last = parts s template entry rest (at + length process + length code) (behind .1) in
     rw (
-      number-back s _ at (call .process) (typed .process) (stands .0),
+      number-back s _ at (call .process) (omega (arith, typed .process)) (stands .0),
+      le-leb (call .process) largestProcess (typed .process),
       number-back s _ (at + length process) (call .code) (omega arith) (behind .0),
       code-taken (call .code) (sound .low) (sound .high),
       part-back (usesTemplate (call .code)) false (call .template) (typed .template) (sound .template) s _ (at + length process + length code) (last .0),

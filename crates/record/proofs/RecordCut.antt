@@ -26,7 +26,7 @@ use Rattle.tuple.specs.declared.field.Field.{Field}
 use Rattle.tuple.specs.declared.field.Tuple.{Tuple}
 use Rattle.tuple.specs.declared.field.Call.{Call}
 use Rattle.tuple.specs.declared.refusal.Refusal.the-variants.{Cut}
-use Rattle.tuple.specs.Bounds.{places}
+use Rattle.tuple.specs.Bounds.{places, largestProcess}
 use Rattle.tuple.specs.Fields.{blankField}
 use Rattle.tuple.specs.Refusals.{refusal}
 use Rattle.tuple.specs.Faults.{first, isDefined, fieldFault, fieldsFault, tupleFault, partFault, usesTemplate, usesEntry, usedFault}
@@ -208,7 +208,7 @@ cut-record call s at n typed none below e =
     let process = bytesOf (call .process) in
     let rest = bytesOf (call .code) ++ (partBytes (usesTemplate (call .code)) (call .template) ++ partBytes (usesEntry (call .code)) (call .entry)) in
     cut-parts s process rest at n below e
-    (λ inside front. rw (number-cut s at (call .process) n (typed .process) inside front))
+    (λ inside front. rw (number-cut s at (call .process) n (omega (arith, typed .process)) inside front))
     (λ inside front behind.
-    rw (number-back s (take (n - length process) rest) at (call .process) (typed .process) front)
+    rw (number-back s (take (n - length process) rest) at (call .process) (omega (arith, typed .process)) front, le-leb (call .process) largestProcess (typed .process))
     (body-cut call typed (range .0) (range .1) (known .1) s (at + length process) (n - length process) inside behind))

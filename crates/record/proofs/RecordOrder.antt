@@ -8,7 +8,7 @@ use mathlib.Core.Bool.{Bool, true, false, cond, _&&_}
 use mathlib.Core.List.{List, [], _∷_, _++_}
 use lib.ListN.{length, take, drop, getD, length-append}
 use lib.Dec.{leb}
-use borrow.Author.Tests.{leb-true, leb-false, lt-leb, eqb-true}
+use borrow.Author.Tests.{leb-true, leb-false, le-leb, lt-leb, eqb-true}
 use borrow.Table.Steps.{cases}
 use Rattle.record.specs.declared.head.Head.the-variants.{Known, Unknown}
 use Rattle.record.specs.declared.reader.Next.{Next}
@@ -28,7 +28,7 @@ use Rattle.tuple.specs.declared.field.Tuple.{Tuple}
 use Rattle.tuple.specs.declared.field.Call.{Call}
 use Rattle.tuple.specs.declared.refusal.Refusal.{Refusal}
 use Rattle.tuple.specs.declared.refusal.Refusal.the-variants.{Beyond, Misshapen}
-use Rattle.tuple.specs.Bounds.{places}
+use Rattle.tuple.specs.Bounds.{places, largestProcess}
 use Rattle.tuple.specs.Fields.{defined, largestOf, blankField}
 use Rattle.tuple.specs.Faults.{unless, first, knownHead, isDefined, fieldFault, fieldsFault, tupleFault, partFault, usesTemplate, usesEntry, usedFault}
 use Rattle.tuple.proofs.FaultLaws.{defined-fault}
@@ -218,7 +218,8 @@ module _ (call : Call) (held : SayableCall call) where
       let stands = parts s process (code ++ both) rest at e in
       let behind = parts s code both rest (at + length process) (stands .1) in
       rw (
-        number-back s _ at (call .process) (held .process) (stands .0),
+        number-back s _ at (call .process) (omega (arith, held .process)) (stands .0),
+        le-leb (call .process) largestProcess (held .process),
         number-back s _ (at + length process) (call .code) (omega (arith, held .code)) (behind .0),
       )
       (cases (isCode (call .code))

@@ -1,4 +1,5 @@
--- Document 01, "Edge values": the starred rows, as one table with one claim; with them the least number that is not written, and a record of a cas.
+-- Document 01, "Edge values": the starred rows, as one table with one claim. With them those of request 2.10, which moves FF FF FF FF 10: numbers of ten
+-- bytes, what is refused at ten, the least number that is not written, and the largest process of a record and the one above it; and a record of a cas.
 use mathlib.Core.Path.{_≡_}
 use Prim.Native.Nat.{ℕ}
 use mathlib.Core.List.{List, [], _∷_, _++_, map}
@@ -42,10 +43,19 @@ sixOf count a b c d e f = record { count = count; fields = a ∷ b ∷ c ∷ d �
 abbrev pub zeros : Field
 zeros = shown 0 0 0
 
--- process 1, out, one given field of kind offset
+-- a process, out, one given field of kind offset
+abbrev pub outBy : ℕ → ℕ → Call
+outBy process value =
+    record {
+      process = process;
+      code = 1;
+      template = sixOf 0 zeros zeros zeros zeros zeros zeros;
+      entry = sixOf 1 (shown 3 0 value) zeros zeros zeros zeros zeros;
+    }
+
+-- by process 1
 abbrev pub outOf : ℕ → Call
-outOf value =
-    record { process = 1; code = 1; template = sixOf 0 zeros zeros zeros zeros zeros zeros; entry = sixOf 1 (shown 3 0 value) zeros zeros zeros zeros zeros }
+outOf value = outBy 1 value
 
 -- the bytes of its record before the value
 abbrev pub ahead : List ℕ
@@ -92,7 +102,7 @@ table =
     ∷ (record { place = bare; bytes = 0x80 ∷ 0x01 ∷ []; meaning = number 128 })
     ∷ (record { place = bare; bytes = 0x80 ∷ 0x80 ∷ 0x01 ∷ []; meaning = number 16_384 })
     ∷ (record { place = bare; bytes = 0xFF ∷ 0xFF ∷ 0xFF ∷ 0xFF ∷ 0x0F ∷ []; meaning = number 4_294_967_295 })
-    ∷ (record { place = bare; bytes = 0xFF ∷ 0xFF ∷ 0xFF ∷ 0xFF ∷ 0x10 ∷ []; meaning = refused 3 })
+    ∷ (record { place = bare; bytes = 0xFF ∷ 0xFF ∷ 0xFF ∷ 0xFF ∷ 0x10 ∷ []; meaning = number 4_563_402_751 })
     ∷ (record { place = bare; bytes = 0x80 ∷ 0x00 ∷ []; meaning = refused 3 })
     ∷ (record { place = bare; bytes = 0x80 ∷ []; meaning = refused 2 })
     ∷ (record { place = field; bytes = 0x00 ∷ []; meaning = signed Bottom })
@@ -101,7 +111,16 @@ table =
     ∷ (record { place = field; bytes = 0x03 ∷ []; meaning = signed (Hundredths (pos 1)) })
     ∷ (record { place = field; bytes = 0xC1 ∷ 0x9A ∷ 0x0C ∷ []; meaning = signed (Hundredths (pos 100_000)) })
     ∷ (record { place = field; bytes = 0xC2 ∷ 0x9A ∷ 0x0C ∷ []; meaning = outside (Hundredths (negsuc 100_000)) 3 })
-    ∷ (record { place = bare; bytes = 0x80 ∷ 0x80 ∷ 0x80 ∷ 0x80 ∷ 0x10 ∷ []; meaning = above 4_294_967_296 3 })
+    ∷ (record { place = bare; bytes = 0x80 ∷ 0x80 ∷ 0x80 ∷ 0x80 ∷ 0x10 ∷ []; meaning = number 4_294_967_296 })
+    ∷ (record { place = bare; bytes = 0x80 ∷ 0x80 ∷ 0x80 ∷ 0x80 ∷ 0x80 ∷ 0x80 ∷ 0x80 ∷ 0x80 ∷ 0x80 ∷ 0x01 ∷ []; meaning = number 9_223_372_036_854_775_808 })
+    ∷ (record { place = bare; bytes = 0xFF ∷ 0xFF ∷ 0xFF ∷ 0xFF ∷ 0xFF ∷ 0xFF ∷ 0xFF ∷ 0xFF ∷ 0xFF ∷ 0x01 ∷ []; meaning = number 18_446_744_073_709_551_615 })
+    ∷ (record { place = bare; bytes = 0xFF ∷ 0xFF ∷ 0xFF ∷ 0xFF ∷ 0xFF ∷ 0xFF ∷ 0xFF ∷ 0xFF ∷ 0xFF ∷ 0x02 ∷ []; meaning = refused 3 })
+    ∷ (record { place = bare; bytes = 0x80 ∷ 0x80 ∷ 0x80 ∷ 0x80 ∷ 0x80 ∷ 0x80 ∷ 0x80 ∷ 0x80 ∷ 0x80 ∷ 0x00 ∷ []; meaning = refused 3 })
+    ∷ (record { place = bare; bytes = 0x80 ∷ 0x80 ∷ 0x80 ∷ 0x80 ∷ 0x80 ∷ 0x80 ∷ 0x80 ∷ 0x80 ∷ 0x80 ∷ []; meaning = refused 2 })
+    ∷ (record { place = bare; bytes = 0x80 ∷ 0x80 ∷ 0x80 ∷ 0x80 ∷ 0x80 ∷ 0x80 ∷ 0x80 ∷ 0x80 ∷ 0x80 ∷ 0x80 ∷ []; meaning = refused 3 })
+    ∷ (record { place = bare; bytes = 0x80 ∷ 0x80 ∷ 0x80 ∷ 0x80 ∷ 0x80 ∷ 0x80 ∷ 0x80 ∷ 0x80 ∷ 0x80 ∷ 0x02 ∷ []; meaning = above 18_446_744_073_709_551_616 3 })
+    ∷ (record { place = whole; bytes = 0xFF ∷ 0xFF ∷ 0xFF ∷ 0xFF ∷ 0x0F ∷ 0x01 ∷ 0x01 ∷ 0x0C ∷ 0x01 ∷ []; meaning = call (outBy 4_294_967_295 1) })
+    ∷ (record { place = whole; bytes = 0x80 ∷ 0x80 ∷ 0x80 ∷ 0x80 ∷ 0x10 ∷ 0x01 ∷ 0x01 ∷ 0x0C ∷ 0x01 ∷ []; meaning = refused 3 })
     ∷ (record { place = whole; bytes = casBytes; meaning = call casCall })
     ∷ []
 

@@ -52,17 +52,19 @@ pub data TupleStops (entry : Bool) (s : List ℕ) (at : ℕ) : ℕ → Type 0 wh
 
 -- ---- a record
 
--- a process is read, and this code behind it
+-- a process is read that is no larger than its largest, and this code behind it
 pub record Coded (s : List ℕ) (at code next : ℕ) : Type 0 where
   pub process : ℕ
   pub behind : ℕ
+  pub small : process ≤ 4_294_967_295
   pub first : numberAt s at ≡ Value process behind
   pub second : numberAt s behind ≡ Value code next
 
--- its process can't be read, or its code; the code is not 1 to 4; then its template stops (2, 3, 4), and then its entry (1, 4)
+-- its process can't be read, or is above its largest; its code can't be read, or is not 1 to 4; then its template stops (2, 3, 4), and then its entry (1, 4)
 pub data CallStops (s : List ℕ) (at : ℕ) : ℕ → Type 0 where
   process-unread : (r : ℕ) → Unread s at r → CallStops s at r
-  code-unread : (process next r : ℕ) → numberAt s at ≡ Value process next → Unread s next r → CallStops s at r
+  process-beyond : (process next : ℕ) → numberAt s at ≡ Value process next → 4_294_967_295 < process → CallStops s at 3
+  code-unread : (process next r : ℕ) → numberAt s at ≡ Value process next → process ≤ 4_294_967_295 → Unread s next r → CallStops s at r
   unknown-code : (code next : ℕ) → Coded s at code next → ((1 ≤ code) × (code ≤ 4) → ⊥) → CallStops s at 4
   in-template : (code next r : ℕ) → Coded s at code next → 2 ≤ code → code ≤ 4 → TupleStops false s next r → CallStops s at r
   in-entry-of-out : (next r : ℕ) → Coded s at 1 next → TupleStops true s next r → CallStops s at r

@@ -81,19 +81,20 @@ OnlyOne =
 
 -- ---- reading, and the fault of a call that is handed in
 
--- what bytes can say of a call: its process, code and used counts are numbers, and so is a head, 4 × kind + state, with a state of at most 3
+-- what bytes can say of a call: its process is at most its largest, its code and used counts are numbers, and so is a head, 4 × kind + state, with a state
+-- of at most 3
 pub record Sayable (f : Field) : Type 0 where
-  pub kind : f .kind < 1_073_741_824
+  pub kind : f .kind < 4_611_686_018_427_387_904
   pub state : f .state ≤ 3
 
 pub record SayableTuple (tuple : Tuple) : Type 0 where
   pub six : length (tuple .fields) ≡ 6
-  pub count : tuple .count ≤ 4_294_967_295
+  pub count : tuple .count ≤ 18_446_744_073_709_551_615
   pub fields : (i : ℕ) → i < tuple .count → i < 6 → Sayable (field tuple i)
 
 pub record SayableCall (call : Call) : Type 0 where
   pub process : call .process ≤ 4_294_967_295
-  pub code : call .code ≤ 4_294_967_295
+  pub code : call .code ≤ 18_446_744_073_709_551_615
   pub template : HasTemplate call → SayableTuple (call .template)
   pub entry : HasEntry call → SayableTuple (call .entry)
 
@@ -140,10 +141,34 @@ pub record WriteRule (call : Call) (buffer : List ℕ) : Type 0 where
 abbrev pub WriteRules : Type 0
 WriteRules = (call : Call) (buffer : List ℕ) → Typed call → WriteRule call buffer
 
--- a record has at most 80 bytes
+-- a record has at most 140 bytes
 abbrev pub AtMost : Type 0
-AtMost = (call : Call) → Typed call → callFault call ≡ Absent → length (callBytes call) ≤ 80
+AtMost = (call : Call) → Typed call → callFault call ≡ Absent → length (callBytes call) ≤ 140
 
--- and one has exactly 80
+-- and one has exactly 140
 abbrev pub Attained : Type 0
-Attained = (call : Call) × Typed call × (callFault call ≡ Absent) × (length (callBytes call) ≡ 80)
+Attained = (call : Call) × Typed call × (callFault call ≡ Absent) × (length (callBytes call) ≡ 140)
+
+-- ---- request 2.10, old records read as before
+
+-- each given count is of 32 bits, as all were in document 01
+abbrev pub OldTuple : Tuple → Type 0
+OldTuple tuple = (i : ℕ) → i < tuple .count → field tuple i .kind ≡ 2 → field tuple i .state ≡ 0 → field tuple i .value ≤ 4_294_967_295
+
+pub record OldCall (call : Call) : Type 0 where
+  pub template : HasTemplate call → OldTuple (call .template)
+  pub entry : HasEntry call → OldTuple (call .entry)
+
+-- the record of such a call has at most 80 bytes, and reads as that call, wherever it stands and whatever follows
+pub record OldRecord (call : Call) (s : List ℕ) (at : ℕ) : Type 0 where
+  pub short : length (callBytes call) ≤ 80
+  pub reads : callAt s at ≡ record { next = place (at + length (callBytes call)); call = call }
+
+abbrev pub OldRecords : Type 0
+OldRecords =
+    (call : Call) (s rest : List ℕ) (at : ℕ)
+    → Typed call
+    → callFault call ≡ Absent
+    → OldCall call
+    → drop at s ≡ callBytes call ++ rest
+    → OldRecord call s at

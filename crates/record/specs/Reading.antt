@@ -1,4 +1,4 @@
--- Document 01, "Bytes": what reading a record answers, left to right, the first fault winning. It depends on no space.
+-- Document 01, "Bytes", with request 2.10's bound of a process: what reading a record answers, left to right, the first fault winning. It depends on no space.
 use Prim.Native.Nat.{ℕ, zero, suc, _-_}
 use mathlib.Core.Bool.{Bool, true, false, cond, _&&_}
 use mathlib.Core.List.{List, [], _∷_, _++_}
@@ -17,7 +17,7 @@ use Rattle.tuple.specs.declared.field.Field.{Field}
 use Rattle.tuple.specs.declared.field.Tuple.{Tuple}
 use Rattle.tuple.specs.Refusals.{refusal}
 use Rattle.tuple.specs.Fields.{defined, out, cas, largestOf, blankField, blankTuple, blankCall}
-use Rattle.tuple.specs.Bounds.{places}
+use Rattle.tuple.specs.Bounds.{places, largestProcess}
 use Rattle.tuple.specs.Faults.{usesTemplate, usesEntry}
 use Rattle.varint.specs.declared.Number.{Number}
 use Rattle.varint.specs.declared.Number.the-variants.{Value, Cut, Overlong}
@@ -150,7 +150,11 @@ bodyAt process s at =
     let code = readNumber s at in
     onward (code .next) (λ next. codeStep process s next (code .value)) noCall
 
+-- a process above the largest is refused 3, whatever follows it
+abbrev pub processStep : List ℕ → ℕ → ℕ → ReadCall
+processStep s at process = cond (leb process largestProcess) (bodyAt process s at) (noCall (refused 3))
+
 unfoldable pub callAt : List ℕ → ℕ → ReadCall
 callAt s at =
     let process = readNumber s at in
-    onward (process .next) (λ next. bodyAt (process .value) s next) noCall
+    onward (process .next) (λ next. processStep s next (process .value)) noCall

@@ -14,4 +14,4 @@ pub use writer::Recorded;
 pub use writer::write;
 
 // The most bytes of a record.
-pub const RECORD_BYTES: usize = 80;
+pub const RECORD_BYTES: usize = 140;

@@ -9,6 +9,7 @@ use tuple::Call;
 use tuple::DEFINED;
 use tuple::FIELDS;
 use tuple::Field;
+use tuple::LARGEST_PROCESS;
 use tuple::OUT;
 use tuple::Refusal;
 use tuple::Tuple;
@@ -184,7 +185,11 @@ impl Cursor {
         let Next::At(cursor) = next else {
             return no_call(next);
         };
-        cursor.body(s, read.value as u32)
+        let process = read.value;
+        if LARGEST_PROCESS < process {
+            return no_call(Next::Refused(Refusal::Beyond));
+        }
+        cursor.body(s, process as u32)
     }
 
     // Steps past a record's code and what follows it.

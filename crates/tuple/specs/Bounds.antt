@@ -18,7 +18,7 @@ abbrev pub largestWord : ℕ
 largestWord = 255
 
 abbrev pub largestCount : ℕ
-largestCount = 4_294_967_295
+largestCount = 18_446_744_073_709_551_615
 
 abbrev pub largestCode : ℕ
 largestCode = 200_001

@@ -24,7 +24,7 @@ pub record Headed (f : Field) : Type 0 where
 -- a value within its kind: a word, a count, the code of an offset, a set of processes
 pub record Within (f : Field) : Type 0 where
   pub word : f .kind ≡ 1 → f .value ≤ 255
-  pub count : f .kind ≡ 2 → f .value ≤ 4_294_967_295
+  pub count : f .kind ≡ 2 → f .value ≤ 18_446_744_073_709_551_615
   pub offset : f .kind ≡ 3 → f .value ≤ 200_001
   pub set : f .kind ≡ 4 → f .value ≤ 2_147_483_647
 

@@ -5,10 +5,13 @@ pub const FIELDS: usize = 6;
 
 pub const TUPLES: usize = 256;
 
+// The largest number of a process in a call.
+pub const LARGEST_PROCESS: u64 = 4_294_967_295;
+
 // The largest value of each kind; an offset's is its largest code.
 pub const LARGEST_WORD: u64 = 255;
 
-pub const LARGEST_COUNT: u64 = 4_294_967_295;
+pub const LARGEST_COUNT: u64 = 18_446_744_073_709_551_615;
 
 pub const LARGEST_CODE: u64 = 200_001;
 

@@ -12,6 +12,7 @@ mod shape;
 pub use bounds::FIELDS;
 pub use bounds::LARGEST_CODE;
 pub use bounds::LARGEST_COUNT;
+pub use bounds::LARGEST_PROCESS;
 pub use bounds::LARGEST_OFFSET;
 pub use bounds::LARGEST_SET;
 pub use bounds::LARGEST_WORD;

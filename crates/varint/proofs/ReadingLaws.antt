@@ -1,4 +1,4 @@
--- The laws of reading a number: its value is bounded by its groups, what is written reads back, what reads is what is written, what its bytes are worth, when it is cut, and that none is above the largest.
+-- The laws of reading a number: its value is bounded by its groups, what is written reads back, what reads is what is written, what its bytes are worth, when it is cut, that none is above the largest, and that those of five bytes read as before.
 use mathlib.Core.Path.{_≡_, refl, sym, ap, ap₂, _∙_, subst}
 use Prim.Native.Nat.{ℕ, zero, suc, _+_, _-_, _*_, _/_, _%_, _^_, _≤_, _<_}
 use native.Mathlib.Omega.{arith}
@@ -12,16 +12,16 @@ use borrow.Author.Tests.{le-ltb, le-leb, lt-leb, ne-eqb, ltb-true, ltb-false, le
 use borrow.Table.Steps.{cases}
 use Rattle.varint.specs.declared.Number.{Number}
 use Rattle.varint.specs.declared.Number.the-variants.{Value, Cut, Overlong}
-use Rattle.varint.specs.Reading.{further, lastGroup, largest, numberRefusal, joined, numberFrom, numberAt, Bytes}
+use Rattle.varint.specs.Reading.{further, lastGroup, largest, numberRefusal, joined, numberFrom, numberAt, oldNumberAt, Bytes}
 use Rattle.varint.specs.Writing.{groupsOf, bytesOf, widthOf}
-use Rattle.varint.specs.Laws.{ReadBack, OnlyForm, Groups, GroupRule, ReadBeyond, CutRule}
+use Rattle.varint.specs.Laws.{ReadBack, OnlyForm, Groups, GroupRule, ReadBeyond, CutRule, OldNumber, OldNumbers}
 use Rattle.varint.specs.Laws.Groups.{last-byte, goes-on}
-use Rattle.varint.proofs.WritingLaws.{groups-last, groups-step, bytes-last, bytes-step, width-of-largest}
+use Rattle.varint.proofs.WritingLaws.{groups-last, groups-step, bytes-last, bytes-step, width-most}
 
--- the largest number that `more` groups behind the first hold
-unfoldable pub greatest : ℕ → ℕ
-greatest zero = lastGroup
-greatest (suc more) = 127 + 128 * greatest more
+-- the largest number that `more` groups behind the first hold, the last of them at most `last`
+unfoldable pub greatest : ℕ → ℕ → ℕ
+greatest last zero = last
+greatest last (suc more) = 127 + 128 * greatest last more
 
 -- an answer by a test: what holds of both holds of the one picked
 pub picked : {X : Type 0} (P : X → Type 0) (t : Bool) {a b : X} → (t ≡ true → P a) → (t ≡ false → P b) → P (cond t a b)
@@ -41,41 +41,41 @@ joined-within byte most (Value rest next) h = picked (Within (127 + 128 * most))
 joined-within byte most Cut h = tt
 joined-within byte most Overlong h = tt
 
-pub number-within : (more : ℕ) (l : List ℕ) (at : ℕ) → Within (greatest more) (numberFrom more l at)
+pub number-within : (last more : ℕ) (l : List ℕ) (at : ℕ) → Within (greatest last more) (numberFrom last more l at)
 unfolding Within greatest numberFrom
-number-within zero [] at = tt
-number-within (suc more) [] at = tt
-number-within zero (byte ∷ l) at = picked (Within lastGroup) (leb byte lastGroup) (λ e. leb-true byte lastGroup e) (λ e. tt)
-number-within (suc more) (byte ∷ l) at =
-    picked (Within (greatest (suc more))) (ltb byte 128)
+number-within last zero [] at = tt
+number-within last (suc more) [] at = tt
+number-within last zero (byte ∷ l) at = picked (Within last) (leb byte last) (λ e. leb-true byte last e) (λ e. tt)
+number-within last (suc more) (byte ∷ l) at =
+    picked (Within (greatest last (suc more))) (ltb byte 128)
     (λ e. omega (arith, ltb-true byte 128 e))
-    (λ e. joined-within byte (greatest more) (numberFrom more l (at + 1)) (number-within more l (at + 1)))
+    (λ e. joined-within byte (greatest last more) (numberFrom last more l (at + 1)) (number-within last more l (at + 1)))
 
 -- ---- what is written reads back
 
-back-step : (more value : ℕ) (rest : List ℕ) (at : ℕ) → 128 ≤ value → value < 2 ^ 64
-    → numberFrom more (bytesOf (value / 128) ++ rest) (at + 1) ≡ Value (value / 128) (at + 1 + widthOf (value / 128))
-    → numberFrom (suc more) (bytesOf value ++ rest) at ≡ Value value (at + widthOf value)
+back-step : (last more value : ℕ) (rest : List ℕ) (at : ℕ) → 128 ≤ value → value < 2 ^ 64
+    → numberFrom last more (bytesOf (value / 128) ++ rest) (at + 1) ≡ Value (value / 128) (at + 1 + widthOf (value / 128))
+    → numberFrom last (suc more) (bytesOf value ++ rest) at ≡ Value value (at + widthOf value)
 unfolding numberFrom joined
-back-step more value rest at large fits e =
+back-step last more value rest at large fits e =
     rw (bytes-step value)
     (rw (le-ltb (value % 128 + 128) 128 (omega arith), e, ne-eqb (value / 128) 0 (omega arith))
     (ap₂ Value (omega arith) (omega arith)))
 
-back : (more value : ℕ) (rest : List ℕ) (at : ℕ) → value ≤ greatest more → value < 2 ^ 64
-    → numberFrom more (bytesOf value ++ rest) at ≡ Value value (at + widthOf value)
+back : (last more value : ℕ) (rest : List ℕ) (at : ℕ) → last < 128 → value ≤ greatest last more → value < 2 ^ 64
+    → numberFrom last more (bytesOf value ++ rest) at ≡ Value value (at + widthOf value)
 unfolding greatest numberFrom
-back zero value rest at h fits = rw (bytes-last value (omega arith)) (rw (le-leb value lastGroup))
-back (suc more) value rest at h fits =
+back last zero value rest at low h fits = rw (bytes-last value (omega arith)) (rw (le-leb value last))
+back last (suc more) value rest at low h fits =
     cases (ltb value 128)
     (λ e. rw (bytes-last value (ltb-true value 128 e)) (rw e))
-    (λ e. back-step more value rest at (ltb-false value 128 e) fits
-    (back more (value / 128) rest (at + 1) (omega (arith, ltb-false value 128 e)) (omega arith)))
+    (λ e. back-step last more value rest at (ltb-false value 128 e) fits
+    (back last more (value / 128) rest (at + 1) low (omega (arith, ltb-false value 128 e)) (omega arith)))
 
 pub read-back : ReadBack
 unfolding numberAt greatest
 read-back s rest at value h e =
-    ap (λ (l : List ℕ). numberFrom further l at) e ∙ back further value rest at h (omega arith)
+    ap (λ (l : List ℕ). numberFrom lastGroup further l at) e ∙ back lastGroup further value rest at (omega arith) h (omega arith)
 
 -- ---- what reads is what is written
 
@@ -103,35 +103,43 @@ shortest-more most byte l at (Value value next) fits top small within s =
 shortest-more most byte l at Cut fits top small within s = tt
 shortest-more most byte l at Overlong fits top small within s = tt
 
-shortest : (more : ℕ) (l : List ℕ) (at : ℕ) → greatest more < 2 ^ 64 → Bytes l → Shortest l at (numberFrom more l at)
+shortest : (last more : ℕ) (l : List ℕ) (at : ℕ) → last < 128 → greatest last more < 2 ^ 64 → Bytes l → Shortest l at (numberFrom last more l at)
 unfolding Shortest numberFrom greatest
-shortest zero [] at h bytes = tt
-shortest (suc more) [] at h bytes = tt
-shortest zero (byte ∷ l) at h bytes =
-    picked (Shortest (byte ∷ l) at) (leb byte lastGroup)
-    (λ e. shortest-one byte l at (omega (arith, leb-true byte lastGroup e))) (λ e. tt)
-shortest (suc more) (byte ∷ l) at h bytes =
+shortest last zero [] at low h bytes = tt
+shortest last (suc more) [] at low h bytes = tt
+shortest last zero (byte ∷ l) at low h bytes =
+    picked (Shortest (byte ∷ l) at) (leb byte last)
+    (λ e. shortest-one byte l at (omega (arith, leb-true byte last e))) (λ e. tt)
+shortest last (suc more) (byte ∷ l) at low h bytes =
     picked (Shortest (byte ∷ l) at) (ltb byte 128)
     (λ e. shortest-one byte l at (ltb-true byte 128 e))
-    (λ e. shortest-more (greatest more) byte l at (numberFrom more l (at + 1)) (omega arith) (ltb-false byte 128 e) (bytes .0)
-    (number-within more l (at + 1)) (shortest more l (at + 1) (omega arith) (bytes .1)))
+    (λ e. shortest-more (greatest last more) byte l at (numberFrom last more l (at + 1)) (omega arith) (ltb-false byte 128 e) (bytes .0)
+    (number-within last more l (at + 1)) (shortest last more l (at + 1) low (omega arith) (bytes .1)))
 
 pub bytes-drop : (n : ℕ) (l : List ℕ) → Bytes l → Bytes (drop n l)
 bytes-drop zero l h = h
 bytes-drop (suc n) [] h = h
 bytes-drop (suc n) (b ∷ l) h = bytes-drop n l (h .1)
 
+-- what reads at a place of s, by any number of groups
+module _ (last more : ℕ) (low : last < 128) (fits : greatest last more < 2 ^ 64) where
+  form-of : (s : List ℕ) (at value next : ℕ) → Bytes s → numberFrom last more (drop at s) at ≡ Value value next
+      → (value ≤ greatest last more) × (next ≡ at + widthOf value) × (drop at s ≡ bytesOf value ++ drop next s)
+  unfolding Within Shortest
+  form-of s at value next bytes e =
+      let within : value ≤ greatest last more = subst (Within (greatest last more)) e (number-within last more (drop at s) at) in
+      let form : Shortest (drop at s) at (Value value next) =
+      subst (Shortest (drop at s) at) e (shortest last more (drop at s) at low fits (bytes-drop at s bytes)) in
+      let behind : drop next s ≡ form .0 =
+      ap (λ (k : ℕ). drop k s) (form .1)
+      ∙ sym (drop-drop (widthOf value) at s)
+      ∙ ap (drop (widthOf value)) (form .2)
+      ∙ drop-at (bytesOf value) (form .0) (widthOf value) refl in
+      (within, form .1, form .2 ∙ ap (λ (l : List ℕ). bytesOf value ++ l) (sym behind))
+
 pub only-form : OnlyForm
-unfolding numberAt greatest Within Shortest
-only-form s at value next bytes e =
-    let within : value ≤ largest = subst (Within largest) e (number-within further (drop at s) at) in
-    let form : Shortest (drop at s) at (Value value next) = subst (Shortest (drop at s) at) e (shortest further (drop at s) at (omega arith) (bytes-drop at s bytes)) in
-    let behind : drop next s ≡ form .0 =
-    ap (λ (k : ℕ). drop k s) (form .1)
-    ∙ sym (drop-drop (widthOf value) at s)
-    ∙ ap (drop (widthOf value)) (form .2)
-    ∙ drop-at (bytesOf value) (form .0) (widthOf value) refl in
-    (within, form .1, form .2 ∙ ap (λ (l : List ℕ). bytesOf value ++ l) (sym behind))
+unfolding numberAt greatest
+only-form s at value next bytes e = form-of lastGroup further (omega arith) (omega arith) s at value next bytes e
 
 -- ---- what its bytes are worth
 
@@ -156,17 +164,17 @@ groups-read s at value next bytes e =
     rw taken (groups-written value (form .0))
 
 pub group-rule : GroupRule
-group-rule = record { few = width-of-largest; written = groups-written; read = groups-read }
+group-rule = record { few = λ value h. width-most value; written = groups-written; read = groups-read }
 
 -- ---- when it is above the largest
 
-beyond-first : (k value : ℕ) (rest : List ℕ) (at : ℕ) → 128 ≤ value → numberFrom zero (groupsOf k value ++ rest) at ≡ Overlong
+beyond-first : (k value : ℕ) (rest : List ℕ) (at : ℕ) → 128 ≤ value → numberFrom lastGroup zero (groupsOf k value ++ rest) at ≡ Overlong
 unfolding numberFrom groupsOf
 beyond-first zero value rest at large = rw (lt-leb value lastGroup (omega arith))
 beyond-first (suc k) value rest at large =
     rw (groups-step k value large) (rw (lt-leb (value % 128 + 128) lastGroup (omega arith)))
 
-beyond-from : (most k value : ℕ) (rest : List ℕ) (at : ℕ) → most ≤ k → greatest most < value → numberFrom most (groupsOf k value ++ rest) at ≡ Overlong
+beyond-from : (most k value : ℕ) (rest : List ℕ) (at : ℕ) → most ≤ k → greatest lastGroup most < value → numberFrom lastGroup most (groupsOf k value ++ rest) at ≡ Overlong
 unfolding numberFrom greatest joined
 beyond-from zero k value rest at few h =
     cases (ltb value 128)
@@ -181,7 +189,7 @@ beyond-from (suc most) (suc k) value rest at few h =
 pub read-beyond : ReadBeyond
 unfolding numberAt bytesOf greatest
 read-beyond s rest at value h e =
-    ap (λ (l : List ℕ). numberRefusal (numberFrom further l at)) e ∙ ap numberRefusal (beyond-from further 9 value rest at (omega arith) h)
+    ap (λ (l : List ℕ). numberRefusal (numberFrom lastGroup further l at)) e ∙ ap numberRefusal (beyond-from further 9 value rest at (omega arith) h)
 
 -- ---- when it is cut
 
@@ -198,17 +206,17 @@ joined-cut byte (Value value next) = (
 joined-cut byte Cut = (λ h. h, λ h. h)
 joined-cut byte Overlong = (λ h. h, λ h. h)
 
-cut-from : (more : ℕ) (l : List ℕ) (at : ℕ) → (numberRefusal (numberFrom more l at) ≡ 2) ↔ Ends more l
+cut-from : (last more : ℕ) (l : List ℕ) (at : ℕ) → (numberRefusal (numberFrom last more l at) ≡ 2) ↔ Ends more l
 unfolding numberFrom
-cut-from zero [] at = (λ h. (omega arith, λ i below. absurd (omega arith)), λ h. refl)
-cut-from (suc more) [] at = (λ h. (omega arith, λ i below. absurd (omega arith)), λ h. refl)
-cut-from zero (byte ∷ l) at = (
-  picked (λ (r : Number). numberRefusal r ≡ 2 → Ends zero (byte ∷ l)) (leb byte lastGroup) (λ e h. absurd (omega arith)) (λ e h. absurd (omega arith)),
+cut-from last zero [] at = (λ h. (omega arith, λ i below. absurd (omega arith)), λ h. refl)
+cut-from last (suc more) [] at = (λ h. (omega arith, λ i below. absurd (omega arith)), λ h. refl)
+cut-from last zero (byte ∷ l) at = (
+  picked (λ (r : Number). numberRefusal r ≡ 2 → Ends zero (byte ∷ l)) (leb byte last) (λ e h. absurd (omega arith)) (λ e h. absurd (omega arith)),
   λ ends. absurd (omega (arith, ends .0)),
 )
-cut-from (suc more) (byte ∷ l) at =
-    let rest = cut-from more l (at + 1) in
-    let joint = joined-cut byte (numberFrom more l (at + 1)) in (
+cut-from last (suc more) (byte ∷ l) at =
+    let rest = cut-from last more l (at + 1) in
+    let joint = joined-cut byte (numberFrom last more l (at + 1)) in (
       picked (λ (r : Number). numberRefusal r ≡ 2 → Ends (suc more) (byte ∷ l)) (ltb byte 128)
           (λ e h. absurd (omega arith))
           (λ e h. let behind = rest .0 (joint .0 h) in
@@ -219,7 +227,7 @@ cut-from (suc more) (byte ∷ l) at =
 pub cut-rule : CutRule
 unfolding numberAt
 cut-rule s at =
-    let cut = cut-from further (drop at s) at in (
+    let cut = cut-from lastGroup further (drop at s) at in (
       λ h. let ends = cut .0 h in (omega (arith, ends .0), ends .1),
       λ h. cut .1 (omega (arith, h .0), h .1),
     )
@@ -235,6 +243,39 @@ pub read-cut : (s : List ℕ) (at value n : ℕ) → value ≤ largest → n < w
 read-cut s at value n h below e =
     let long : length (drop at s) ≡ n = ap length e ∙ length-take-le n (bytesOf value) (omega arith) in
     cut-rule s at .1 (
-      omega (arith, width-of-largest value h),
+      omega (arith, width-most value),
       λ i inside. rw e (rw (getD-take n (bytesOf value) i 0 (omega arith)) (groups-on (groups-written value h) i (omega arith))),
     )
+
+-- ---- what five bytes hold reads as before
+
+module _ (s : List ℕ) (at : ℕ) (bytes : Bytes s) where
+  old-reads : (value next : ℕ) → oldNumberAt s at ≡ Value value next → (numberAt s at ≡ Value value next) × (value ≤ 4_294_967_295)
+  unfolding oldNumberAt greatest
+  old-reads value next e =
+      let form = form-of 0x0F 4 (omega arith) (omega arith) s at value next bytes e in
+      (read-back s (drop next s) at value (omega (arith, form .0)) (form .2) ∙ ap (Value value) (sym (form .1)), form .0)
+
+  reads-old : (value next : ℕ) → numberAt s at ≡ Value value next → value ≤ 4_294_967_295 → oldNumberAt s at ≡ Value value next
+  unfolding oldNumberAt greatest
+  reads-old value next e few =
+      let form = only-form s at value next bytes e in
+      ap (λ (l : List ℕ). numberFrom 0x0F 4 l at) (form .2)
+      ∙ back 0x0F 4 value (drop next s) at (omega arith) few (omega arith)
+      ∙ ap (Value value) (sym (form .1))
+
+old-cut : (s : List ℕ) (at : ℕ) → (numberRefusal (oldNumberAt s at) ≡ 2) ↔ ((numberRefusal (numberAt s at) ≡ 2) × (length (drop at s) < 5))
+unfolding oldNumberAt numberAt
+old-cut s at =
+    let old = cut-from 0x0F 4 (drop at s) at in
+    let cut = cut-from lastGroup further (drop at s) at in (
+      λ h. let ends = old .0 h in (cut .1 (omega (arith, ends .0), ends .1), omega (arith, ends .0)),
+      λ h. old .1 (omega (arith, h .1), cut .0 (h .0) .1),
+    )
+
+pub old-numbers : OldNumbers
+old-numbers s at bytes =
+    record {
+      reads = λ value next. (old-reads s at bytes value next, λ h. reads-old s at bytes value next (h .0) (h .1));
+      cut = old-cut s at;
+    }

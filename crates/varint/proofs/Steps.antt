@@ -22,15 +22,13 @@ unfoldable pub worthAt : ℕ → ℕ
 worthAt zero = 1
 worthAt (suc passed) = 128 * worthAt passed
 
--- at most 128 ^ 4
-worth-most : (passed : ℕ) → passed ≤ further → worthAt passed ≤ 268_435_456
+-- it grows from group to group
+worth-up : (passed most : ℕ) → passed ≤ most → worthAt passed ≤ worthAt most
 unfolding worthAt
-worth-most zero h = omega arith
-worth-most (suc zero) h = omega arith
-worth-most (suc (suc zero)) h = omega arith
-worth-most (suc (suc (suc zero))) h = omega arith
-worth-most (suc (suc (suc (suc zero)))) h = omega arith
-worth-most (suc (suc (suc (suc (suc passed))))) h = absurd (omega arith)
+worth-up zero zero h = omega arith
+worth-up zero (suc most) h = omega (arith, worth-up zero most (omega arith))
+worth-up (suc passed) zero h = absurd (omega arith)
+worth-up (suc passed) (suc most) h = omega (arith, worth-up passed most (omega arith))
 
 -- the number that the groups passed and the number behind them make: 0 behind a group is a last byte 00
 unfoldable pub grown : ℕ → ℕ → Number → Number
@@ -43,7 +41,7 @@ pub record Passed (s : List ℕ) (at value worth place more : ℕ) : Type 0 wher
   pub few : more ≤ further
   pub weight : worth ≡ worthAt (further - more)
   pub small : value < worth
-  pub same : numberAt s at ≡ grown value worth (numberFrom more (drop place s) place)
+  pub same : numberAt s at ≡ grown value worth (numberFrom lastGroup more (drop place s) place)
 
 alone : (number : Number) → number ≡ grown 0 1 number
 unfolding grown
@@ -53,7 +51,7 @@ alone Overlong = refl
 
 pub passed-none : (s : List ℕ) (at : ℕ) → Passed s at 0 1 at further
 unfolding worthAt numberAt
-passed-none s at = record { few = omega arith; weight = refl; small = omega arith; same = alone (numberFrom further (drop at s) at) }
+passed-none s at = record { few = omega arith; weight = refl; small = omega arith; same = alone (numberFrom lastGroup further (drop at s) at) }
 
 -- ---- one group more
 
@@ -73,25 +71,25 @@ joined-grown byte value worth Cut some = refl
 joined-grown byte value worth Overlong some = refl
 
 -- no byte is left
-none-cut : (value worth more place : ℕ) → grown value worth (numberFrom more [] place) ≡ Cut
+none-cut : (value worth more place : ℕ) → grown value worth (numberFrom lastGroup more [] place) ≡ Cut
 unfolding grown numberFrom
 none-cut value worth zero place = refl
 none-cut value worth (suc more) place = refl
 
 module _ (byte : ℕ) (rest : List ℕ) (place : ℕ) where
   -- a group that is the last
-  last-group : (more : ℕ) → byte < 128 → (more ≡ 0 → byte ≤ lastGroup) → numberFrom more (byte ∷ rest) place ≡ Value byte (place + 1)
+  last-group : (more : ℕ) → byte < 128 → (more ≡ 0 → byte ≤ lastGroup) → numberFrom lastGroup more (byte ∷ rest) place ≡ Value byte (place + 1)
   unfolding numberFrom
   last-group zero low few = rw (le-leb byte lastGroup (few refl))
   last-group (suc more) low few = rw (lt-ltb byte 128 low)
 
   -- one above the largest where no more may follow
-  above-group : (more : ℕ) → more ≡ 0 → lastGroup < byte → numberFrom more (byte ∷ rest) place ≡ Overlong
+  above-group : (more : ℕ) → more ≡ 0 → lastGroup < byte → numberFrom lastGroup more (byte ∷ rest) place ≡ Overlong
   unfolding numberFrom
   above-group more none above = rw none (rw (lt-leb byte lastGroup above))
 
   -- one that more follow
-  further-group : (more : ℕ) → (more ≡ 0 → ⊥) → 128 ≤ byte → numberFrom more (byte ∷ rest) place ≡ joined byte (numberFrom (more - 1) rest (place + 1))
+  further-group : (more : ℕ) → (more ≡ 0 → ⊥) → 128 ≤ byte → numberFrom lastGroup more (byte ∷ rest) place ≡ joined byte (numberFrom lastGroup (more - 1) rest (place + 1))
   unfolding numberFrom
   further-group zero some high = absurd (some refl)
   further-group (suc more) some high =
@@ -117,26 +115,50 @@ module _ (byte worth more : ℕ) where
   pub last-inner : (byte ≡ 0 → ⊥) → (more ≡ 0 → ⊥) → false ≡ overlong byte worth more
   last-inner some follow = rw (ne-eqb byte 0 some, ne-eqb more 0 follow)
 
+  -- one that is not too long is at most the largest, where no more may follow
+  last-few : more ≡ 0 → overlong byte worth more ≡ false → byte ≤ lastGroup
+  last-few none fine =
+      cases (eqb byte 0)
+      (λ e. omega (arith, eqb-true byte 0 e))
+      (λ e. ltb-false lastGroup byte (rw (e, eq-eqb more 0 none) at fine))
+
 -- ---- what `read` does at a group
 
 module _ {s : List ℕ} {at value worth place more : ℕ} (passed : Passed s at value worth place more) where
-  pub few-worth : worth ≤ 268_435_456
-  few-worth = rw (passed .weight) (worth-most (further - more) (omega arith))
+  -- 128 ^ 8, where more groups may follow
+  inner-worth : (more ≡ 0 → ⊥) → worth ≤ 72_057_594_037_927_936
+  unfolding worthAt
+  inner-worth some = rw (passed .weight) (worth-up (further - more) 8 (omega arith))
+
+  -- 128 ^ 9
+  few-worth : worth ≤ 9_223_372_036_854_775_808
+  unfolding worthAt
+  few-worth = rw (passed .weight) (worth-up (further - more) 9 (omega arith))
 
   -- a group's part of the value
-  pub few-part : (group : ℕ) → group < 128 → worth * group ≤ 127 * worth
-  few-part group low =
-      let most : group ≤ 127 = omega arith in
-      omega (arith, mul-le-mul-left worth most)
+  part : (group most : ℕ) → group ≤ most → worth * group ≤ worth * most
+  part group most few = mul-le-mul-left worth few
+
+  -- a group that more follow fits, and so does what the next one is worth
+  pub inner-fits : (group : ℕ) → group < 128 → (more ≡ 0 → ⊥) → (value + worth * group ≤ 18_446_744_073_709_551_615) × (worth * 128 ≤ 18_446_744_073_709_551_615)
+  inner-fits group low some = (omega (arith, passed .small, inner-worth some, part group 127 (omega arith)), omega (arith, inner-worth some))
+
+  -- so does a last one: where no more may follow it is at most 1
+  pub last-fits : (byte : ℕ) → byte < 128 → overlong byte worth more ≡ false → value + worth * byte ≤ 18_446_744_073_709_551_615
+  last-fits byte low fine =
+      cases (eqb more 0)
+      (λ e. let few : byte ≤ 1 = last-few byte worth more (eqb-true more 0 e) fine in
+      omega (arith, passed .small, few-worth, part byte 1 few))
+      (λ e. inner-fits byte low (eqb-false more 0 e) .0)
 
   pub cut : length s ≤ place → Cut ≡ numberAt s at
-  cut end = sym (passed .same ∙ ap (λ (l : List ℕ). grown value worth (numberFrom more l place)) (drop-of-length-le s end) ∙ none-cut value worth more place)
+  cut end = sym (passed .same ∙ ap (λ (l : List ℕ). grown value worth (numberFrom lastGroup more l place)) (drop-of-length-le s end) ∙ none-cut value worth more place)
 
   module _ (byte : ℕ) (inside : place < length s) (read : byte ≡ getD s place 0) where
-    here : numberAt s at ≡ grown value worth (numberFrom more (byte ∷ drop (place + 1) s) place)
+    here : numberAt s at ≡ grown value worth (numberFrom lastGroup more (byte ∷ drop (place + 1) s) place)
     here =
         passed .same
-        ∙ ap (λ (l : List ℕ). grown value worth (numberFrom more l place))
+        ∙ ap (λ (l : List ℕ). grown value worth (numberFrom lastGroup more l place))
         (drop-cons s place 0 inside ∙ ap (λ (b : ℕ). b ∷ drop (suc place) s) (sym read) ∙ ap (λ (k : ℕ). byte ∷ drop k s) (sym (add-one place)))
 
     pub ends : byte < 128 → overlong byte worth more ≡ false → Value (value + worth * byte) (place + 1) ≡ numberAt s at
@@ -172,6 +194,6 @@ module _ {s : List ℕ} {at value worth place more : ℕ} (passed : Passed s at 
         record {
           few = omega (arith, passed .few);
           weight = ap (λ (w : ℕ). w * 128) (passed .weight) ∙ omega arith ∙ sym (ap worthAt one-more);
-          small = omega (arith, passed .small, few-part (byte % 128) (omega arith));
+          small = omega (arith, passed .small, part (byte % 128) 127 (omega arith));
           same = here ∙ ap (grown value worth) (further-group byte _ place more some high) ∙ joined-grown byte value worth _ (omega (arith, passed .small));
         }

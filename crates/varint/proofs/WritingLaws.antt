@@ -88,13 +88,14 @@ pub width-most : (value : ℕ) → widthOf value ≤ 10
 unfolding bytesOf
 width-most value = groups-all 9 value
 
-pub width-of-largest : (value : ℕ) → value ≤ largest → widthOf value ≤ 5
+-- a number of 32 bits takes at most five
+pub width-of-few : (value : ℕ) → value ≤ 4_294_967_295 → widthOf value ≤ 5
 unfolding bytesOf top
-width-of-largest value h = groups-most 9 4 value (omega arith)
+width-of-few value h = groups-most 9 4 value (omega arith)
 
 -- ---- what writing a number answers and leaves, by whether it is held and has room
 
-pub written-beyond : (s : List ℕ) (at value : ℕ) → largest < value → (Beyond ≡ writtenAt (length s) at value) × (s ≡ leftAt s at value)
+written-beyond : (s : List ℕ) (at value : ℕ) → largest < value → (Beyond ≡ writtenAt (length s) at value) × (s ≡ leftAt s at value)
 unfolding writtenAt leftAt
 written-beyond s at value h = (rw (lt-ltb largest value h), rw (lt-ltb largest value h))
 

@@ -8,7 +8,7 @@ use Rattle.varint.specs.declared.Number.{Number}
 use Rattle.varint.specs.declared.Number.the-variants.{Value}
 use Rattle.varint.specs.declared.Written.{Written}
 use Rattle.varint.specs.declared.Written.the-variants.{Next}
-use Rattle.varint.specs.Reading.{largest, numberRefusal, refused, numberAt, Bytes}
+use Rattle.varint.specs.Reading.{largest, numberRefusal, refused, numberAt, oldNumberAt, Bytes}
 use Rattle.varint.specs.Writing.{bytesOf, widthOf, writtenRefusal, unwritten, writtenAt, leftAt}
 
 -- what is written reads back, at every place and with any bytes behind it
@@ -25,26 +25,35 @@ pub data Groups : ℕ → List ℕ → Type 0 where
   last-byte : (byte : ℕ) → byte < 128 → Groups byte (byte ∷ [])
   goes-on : (value byte rest : ℕ) (l : List ℕ) → 128 ≤ byte → byte < 256 → value ≡ byte - 128 + 128 * rest → 1 ≤ rest → Groups rest l → Groups value (byte ∷ l)
 
--- what is written for a number is at most five such bytes, and what is read as one is such bytes
+-- what is written for a number is at most ten such bytes, and what is read as one is such bytes
 pub record GroupRule : Type 0 where
-  pub few : (value : ℕ) → value ≤ 4_294_967_295 → widthOf value ≤ 5
-  pub written : (value : ℕ) → value ≤ 4_294_967_295 → Groups value (bytesOf value)
+  pub few : (value : ℕ) → value ≤ 18_446_744_073_709_551_615 → widthOf value ≤ 10
+  pub written : (value : ℕ) → value ≤ 18_446_744_073_709_551_615 → Groups value (bytesOf value)
   pub read : (s : List ℕ) (at value next : ℕ) → Bytes s → numberAt s at ≡ Value value next → Groups value (take (next - at) (drop at s))
 
 -- the bytes that a number above the largest would have are refused 3
 abbrev pub ReadBeyond : Type 0
-ReadBeyond = (s rest : List ℕ) (at value : ℕ) → 4_294_967_295 < value → drop at s ≡ bytesOf value ++ rest → numberRefusal (numberAt s at) ≡ 3
+ReadBeyond = (s rest : List ℕ) (at value : ℕ) → 18_446_744_073_709_551_615 < value → drop at s ≡ bytesOf value ++ rest → numberRefusal (numberAt s at) ≡ 3
 
 -- each answer that is a refusal is the one of its number
 pub record Numbered : Type 0 where
   pub reading : (r : Number) → (numberRefusal r ≡ 0 → ⊥) → refused (numberRefusal r) ≡ r
   pub writing : (r : Written) → (writtenRefusal r ≡ 0 → ⊥) → unwritten (writtenRefusal r) ≡ r
 
--- a number is refused 2 exactly when fewer than five bytes are left and each of them goes on, its top bit being set
+-- a number is refused 2 exactly when fewer than ten bytes are left and each of them goes on, its top bit being set
 abbrev pub CutRule : Type 0
 CutRule =
     (s : List ℕ) (at : ℕ)
-    → (numberRefusal (numberAt s at) ≡ 2) ↔ ((length (drop at s) < 5) × ((i : ℕ) → i < length (drop at s) → 128 ≤ getD (drop at s) i 0))
+    → (numberRefusal (numberAt s at) ≡ 2) ↔ ((length (drop at s) < 10) × ((i : ℕ) → i < length (drop at s) → 128 ≤ getD (drop at s) i 0))
+
+-- request 2.10, old numbers read as before: the number that document 01's five bytes gave is read, at its value and its place, and of all that are read
+-- it is the one of 32 bits; what was cut is cut, and of all that is cut it is what has fewer than five bytes
+pub record OldNumber (s : List ℕ) (at : ℕ) : Type 0 where
+  pub reads : (value next : ℕ) → (oldNumberAt s at ≡ Value value next) ↔ ((numberAt s at ≡ Value value next) × (value ≤ 4_294_967_295))
+  pub cut : (numberRefusal (oldNumberAt s at) ≡ 2) ↔ ((numberRefusal (numberAt s at) ≡ 2) × (length (drop at s) < 5))
+
+abbrev pub OldNumbers : Type 0
+OldNumbers = (s : List ℕ) (at : ℕ) → Bytes s → OldNumber s at
 
 -- a buffer in which a number was written holds its bytes from the place on; those before and behind them are as they were
 pub record Stored (s : List ℕ) (at value : ℕ) : Type 0 where
@@ -56,10 +65,10 @@ pub record Stored (s : List ℕ) (at value : ℕ) : Type 0 where
 -- writing a number is refused 3 exactly when it is above the largest; then 10 exactly when fewer bytes are left than it has; a refusal leaves every byte.
 -- Else it is written, and the answer is the place behind it
 pub record WriteRule (s : List ℕ) (at value : ℕ) : Type 0 where
-  pub beyond : (writtenRefusal (writtenAt (length s) at value) ≡ 3) ↔ (4_294_967_295 < value)
-  pub no-room : (writtenRefusal (writtenAt (length s) at value) ≡ 10) ↔ ((value ≤ 4_294_967_295) × (length s < at + widthOf value))
+  pub beyond : (writtenRefusal (writtenAt (length s) at value) ≡ 3) ↔ (18_446_744_073_709_551_615 < value)
+  pub no-room : (writtenRefusal (writtenAt (length s) at value) ≡ 10) ↔ ((value ≤ 18_446_744_073_709_551_615) × (length s < at + widthOf value))
   pub kept : (writtenRefusal (writtenAt (length s) at value) ≡ 0 → ⊥) → leftAt s at value ≡ s
-  pub written : value ≤ 4_294_967_295 → at + widthOf value ≤ length s → (writtenAt (length s) at value ≡ Next (at + widthOf value)) × Stored s at value
+  pub written : value ≤ 18_446_744_073_709_551_615 → at + widthOf value ≤ length s → (writtenAt (length s) at value ≡ Next (at + widthOf value)) × Stored s at value
 
 abbrev pub WriteRules : Type 0
 WriteRules = (s : List ℕ) (at value : ℕ) → WriteRule s at value

@@ -1,4 +1,4 @@
--- Document 01, "Bytes": what reading a number answers, each refusal by 01's number.
+-- Document 01, "Bytes", with request 2.10's ten bytes: what reading a number answers, each refusal by 01's number.
 use Prim.Native.Nat.{ℕ, zero, suc, _+_, _-_, _*_, _%_, _<_}
 use mathlib.Core.Bool.{cond}
 use mathlib.Core.List.{List, [], _∷_}
@@ -9,18 +9,18 @@ use Rattle.varint.specs.declared.Number.the-variants.{Value, Cut, Overlo
 
 -- the most groups of a number, and the most that may follow the first
 abbrev pub groups : ℕ
-groups = 5
+groups = 10
 
 abbrev pub further : ℕ
 further = groups - 1
 
--- the largest fifth byte
+-- the largest tenth byte
 abbrev pub lastGroup : ℕ
-lastGroup = 0x0F
+lastGroup = 0x01
 
 -- the largest number
 abbrev pub largest : ℕ
-largest = 4_294_967_295
+largest = 18_446_744_073_709_551_615
 
 -- ---- 01's number of each answer that is a refusal, 0 for one that is none, and the answer of each number
 
@@ -40,15 +40,20 @@ joined byte (Value rest next) = cond (eqb rest 0) (refused 3) (Value (byte % 128
 joined byte Cut = Cut
 joined byte Overlong = Overlong
 
--- the number that the list begins with, of which at most `more` groups may follow the first; the list's first byte is at the place `at`
-unfoldable pub numberFrom : ℕ → List ℕ → ℕ → Number
-numberFrom more [] at = refused 2
-numberFrom zero (byte ∷ l) at = cond (leb byte lastGroup) (Value byte (at + 1)) (refused 3)
-numberFrom (suc more) (byte ∷ l) at = cond (ltb byte 128) (Value byte (at + 1)) (joined byte (numberFrom more l (at + 1)))
+-- the number that the list begins with, of which at most `more` groups may follow the first, and where none may follow a group is at most `last`; the
+-- list's first byte is at the place `at`
+unfoldable pub numberFrom : ℕ → ℕ → List ℕ → ℕ → Number
+numberFrom last more [] at = refused 2
+numberFrom last zero (byte ∷ l) at = cond (leb byte last) (Value byte (at + 1)) (refused 3)
+numberFrom last (suc more) (byte ∷ l) at = cond (ltb byte 128) (Value byte (at + 1)) (joined byte (numberFrom last more l (at + 1)))
 
 -- the number at a place of s
 unfoldable pub numberAt : List ℕ → ℕ → Number
-numberAt s at = numberFrom further (drop at s) at
+numberAt s at = numberFrom lastGroup further (drop at s) at
+
+-- the number there by document 01 alone: at most five bytes, a fifth byte above 0F being refused
+unfoldable pub oldNumberAt : List ℕ → ℕ → Number
+oldNumberAt s at = numberFrom 0x0F 4 (drop at s) at
 
 -- each element is a byte
 abbrev pub Bytes : List ℕ → Type 0

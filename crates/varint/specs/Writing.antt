@@ -19,7 +19,7 @@ groupsOf (suc more) value = cond (ltb value 128) (value ∷ []) ((value % 128 + 
 abbrev pub widest : ℕ
 widest = 9
 
--- the shortest form of any 64-bit number; one above the largest is never written
+-- the shortest form of any 64-bit number; one above it is never written
 unfoldable pub bytesOf : ℕ → List ℕ
 bytesOf value = groupsOf widest value
 

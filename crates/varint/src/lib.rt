@@ -8,13 +8,10 @@ ghost use Rattle.varint.specs.Reading.{lastGroup, numberAt};
 ghost use Rattle.varint.specs.Writing.{bytesOf, widthOf, stored, writtenAt, leftAt};
 
 // The most groups that a number has.
-pub const GROUPS: usize = 5;
+pub const GROUPS: usize = 10;
 
 // The largest last group of a number that has that many.
-pub const LAST_GROUP: u64 = 0x0F;
-
-// The largest number that these groups hold.
-pub const LARGEST: u64 = 0xFFFF_FFFF;
+pub const LAST_GROUP: u64 = 0x01;
 
 // What reading a number answers.
 pub enum Number {
@@ -30,7 +27,7 @@ pub enum Number {
 pub enum Written {
     // The place behind its last byte.
     Next(usize),
-    // The number is above the largest.
+    // The number is above the largest, as no number of 64 bits is.
     Beyond,
     // The buffer ends before the number does.
     NoRoom,
@@ -95,9 +92,6 @@ pub fn write(buffer: &mut [u8], at: usize, value: u64) -> Written
     ensures { λ r. ⌜ r ≡ writtenAt (length (now (buffer .entry))) at value ⌝ }
     ensures { λ _. ⌜ now (buffer .exit) ≡ leftAt (now (buffer .entry)) at value ⌝ }
 {
-    if LARGEST < value {
-        return Written::Beyond;
-    }
     let n = width(value);
     if buffer.len() < n {
         return Written::NoRoom;

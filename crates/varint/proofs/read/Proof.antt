@@ -3,7 +3,7 @@ use borrow.Author.Needs.{needs}
 use mathlib.Core.Path.{sym, _∙_}
 use Prim.Native.Nat.{_%_}
 use native.Mathlib.Omega.{arith}
-use Rattle.varint.proofs.Steps.{Passed, passed-none, few-worth, few-part, cut, ends, too-long, beyond, passed-more}
+use Rattle.varint.proofs.Steps.{Passed, passed-none, inner-fits, last-fits, cut, ends, too-long, beyond, passed-more}
 use Rattle.varint.proofs.read.Statement.{statement}
 use Rattle.varint.proofs.read.Tie as tie
 
@@ -44,17 +44,15 @@ mul-t13 : tie.Need-mul-t13 Inv-loop μ-loop
 mul-t13 c =
     let w = c .before .before .before in
     let l = w .before .before .before in
-    let p = few-part (l .loop .inv) (w .wide .result) (c .before .before .if2 .taken) in
-    let few = few-worth (l .loop .inv) in
+    let fits = last-fits (l .loop .inv) (w .wide .result) (c .before .before .if2 .taken) (sym (c .before .is-overlong .ensures) ∙ c .if3 .left) in
     record { fits = omega arith }
 
 add-t14 : tie.Need-add-t14 Inv-loop μ-loop
 add-t14 c =
     let w = c .before .before .before in
     let l = w .before .before .before in
-    let p = few-part (l .loop .inv) (w .wide .result) (c .before .before .if2 .taken) in
-    let few = few-worth (l .loop .inv) in
-    record { fits = omega (arith, l .loop .inv .small) }
+    let fits = last-fits (l .loop .inv) (w .wide .result) (c .before .before .if2 .taken) (sym (c .before .is-overlong .ensures) ∙ c .if3 .left) in
+    record { fits = omega arith }
 
 add-t15 : tie.Need-add-t15 Inv-loop μ-loop
 add-t15 c = search needs
@@ -77,22 +75,20 @@ mul-value : tie.Need-mul-value Inv-loop μ-loop
 mul-value c =
     let w = c .before .before in
     let l = w .before .before .before in
-    let p = few-part (l .loop .inv) (w .wide .result % 128) (omega arith) in
-    let few = few-worth (l .loop .inv) in
+    let fits = inner-fits (l .loop .inv) (w .wide .result % 128) (omega arith) (c .if4 .left) .0 in
     record { fits = omega arith }
 
 add-value : tie.Need-add-value Inv-loop μ-loop
 add-value c =
     let w = c .before .before in
     let l = w .before .before .before in
-    let p = few-part (l .loop .inv) (w .wide .result % 128) (omega arith) in
-    let few = few-worth (l .loop .inv) in
-    record { fits = omega (arith, l .loop .inv .small) }
+    let fits = inner-fits (l .loop .inv) (w .wide .result % 128) (omega arith) (c .if4 .left) .0 in
+    record { fits = omega arith }
 
 mul-worth : tie.Need-mul-worth Inv-loop μ-loop
 mul-worth c =
     let l = c .before .before .before .before .before in
-    let few = few-worth (l .loop .inv) in
+    let fits = inner-fits (l .loop .inv) 0 (omega arith) (c .if4 .left) .1 in
     record { fits = omega arith }
 
 add-place : tie.Need-add-place Inv-loop μ-loop

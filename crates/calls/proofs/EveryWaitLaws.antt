@@ -79,7 +79,7 @@ module _ (config : Config) (safe : sound config ≡ true) (five : config .policy
         let call = listFor helper at owner serial 1 in
         let entry = listTuple at owner serial 1 in
         let range = sound-range config safe in
-        let small : serial ≤ 4_294_967_295 = ⊎-elim (λ z. omega (arith, z)) (λ z. omega (arith, z)) under in
+        let small : serial ≤ 18_446_744_073_709_551_615 = ⊎-elim (λ z. omega (arith, z)) (λ z. omega (arith, z)) under in
         let space = next-space config safe shares tuples (state .shared) (state .lawful) helper at owner serial 1 (omega arith) (omega arith) (omega arith) one most (omega arith) small (λ z. omega arith) (omega arith) unlisted due refl in
         record {
           call = call;

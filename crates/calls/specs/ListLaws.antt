@@ -83,7 +83,7 @@ NextListed =
     → length (listAfter config calls) < 112
     → 1 ≤ process
     → process ≤ config .n
-    → serial ≤ 4_294_967_295
+    → serial ≤ 18_446_744_073_709_551_615
     → (Listed (held (last config calls)) process serial → ⊥)
     → (code ≡ 0 → ⊥)
     → code ≤ 200_001
@@ -106,7 +106,7 @@ TakenRule =
     → position ≤ length (listAfter config calls)
     → 1 ≤ process
     → process ≤ config .n
-    → serial ≤ 4_294_967_295
+    → serial ≤ 18_446_744_073_709_551_615
     → (code ≡ 0 → ⊥)
     → code ≤ 200_001
     → Taken config calls process position serial code
@@ -147,7 +147,7 @@ pub record NextDue (config : Config) (calls : List Call) (caller : ℕ) : Type 0
       (listFor caller (length (listAfter config calls) + 1) (preferred (config .n) (length (listAfter config calls) + 1)) serial code) .reply .outcome
       ≡ Inserted
   pub alone : (serial code : ℕ)
-      → serial ≤ 4_294_967_295
+      → serial ≤ 18_446_744_073_709_551_615
       → (code ≡ 0 → ⊥)
       → code ≤ 200_001
       → (Listed (held (last config calls)) caller serial → ⊥)
@@ -175,7 +175,7 @@ NextAnnounced =
     → config .policy ≡ 5
     → 1 ≤ process
     → process ≤ config .n
-    → serial ≤ 4_294_967_295
+    → serial ≤ 18_446_744_073_709_551_615
     → (code ≡ 0 → ⊥)
     → code ≤ 200_001
     → (Announcing (held (last config calls)) process → ⊥)

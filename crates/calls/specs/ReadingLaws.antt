@@ -79,5 +79,5 @@ PositionReads =
     → hasList config ≡ true
     → 1 ≤ process
     → process ≤ config .n
-    → position ≤ 4_294_967_295
+    → position ≤ 18_446_744_073_709_551_615
     → PositionRead config calls process position

@@ -79,9 +79,9 @@ LongRule = (s : List ℕ) → 65_536 < length s → text s ≡ lineText "refused
 
 -- the bytes of a set-up: n, t and the policy number, and k behind them exactly where the policy is 3; elsewhere k is 0
 pub data SetUpForm : Config → List ℕ → Type 0 where
-  without-k : (n t policy : ℕ) → n ≤ 4_294_967_295 → t ≤ 4_294_967_295 → policy ≤ 4_294_967_295 → (policy ≡ 3 → ⊥)
+  without-k : (n t policy : ℕ) → n ≤ 18_446_744_073_709_551_615 → t ≤ 18_446_744_073_709_551_615 → policy ≤ 18_446_744_073_709_551_615 → (policy ≡ 3 → ⊥)
       → SetUpForm (record { n = n; t = t; policy = policy; k = 0 }) (bytesOf n ++ bytesOf t ++ bytesOf policy)
-  with-k : (n t k : ℕ) → n ≤ 4_294_967_295 → t ≤ 4_294_967_295 → k ≤ 4_294_967_295
+  with-k : (n t k : ℕ) → n ≤ 18_446_744_073_709_551_615 → t ≤ 18_446_744_073_709_551_615 → k ≤ 18_446_744_073_709_551_615
       → SetUpForm (record { n = n; t = t; policy = 3; k = k }) (bytesOf n ++ bytesOf t ++ bytesOf 3 ++ bytesOf k)
 
 -- such bytes at the start of a script read as that set-up, whatever follows
@@ -107,10 +107,10 @@ SetUpOnly =
 
 -- the numbers of a set-up, each of which can be written
 pub record Written (config : Config) : Type 0 where
-  pub n : config .n ≤ 4_294_967_295
-  pub t : config .t ≤ 4_294_967_295
-  pub policy : config .policy ≤ 4_294_967_295
-  pub k : config .k ≤ 4_294_967_295
+  pub n : config .n ≤ 18_446_744_073_709_551_615
+  pub t : config .t ≤ 18_446_744_073_709_551_615
+  pub policy : config .policy ≤ 18_446_744_073_709_551_615
+  pub k : config .k ≤ 18_446_744_073_709_551_615
   pub only : (config .policy ≡ 3 → ⊥) → config .k ≡ 0
 
 -- such are the bytes that are written for it (document 02, 2.4)
@@ -136,8 +136,8 @@ SetUpFaults = (s : List ℕ) (why : Refusal) → SetUpFault s why
 abbrev pub SetUpCut : Type 0
 SetUpCut =
     (n t : ℕ)
-    → n ≤ 4_294_967_295
-    → t ≤ 4_294_967_295
+    → n ≤ 18_446_744_073_709_551_615
+    → t ≤ 18_446_744_073_709_551_615
     → configOf (bytesOf n ++ bytesOf t ++ bytesOf 3) ≡ noConfig (Refused (refusal 2))
 
 -- ---- one record

@@ -46,21 +46,21 @@ pub refusal-most : (why : Refusal) → length (refusalText why) ≤ 10
 unfolding refusalText
 refusal-most why = omega (arith, spaced-most 1 (numberOf why) (number-most why))
 
--- ---- fields: a value of ten digits at most
+-- ---- fields: a value of 64 bits, which has twenty digits at most
 
--- an offset's digits are those of half of its code
-offset-most : (o : Offset) → codeOf o < 10 ^ 10 → length (offsetText o) ≤ 11
+-- an offset's digits are those of half of its code, with a sign
+offset-most : (o : Offset) → codeOf o ≤ 18_446_744_073_709_551_615 → length (offsetText o) ≤ 20
 offset-most Bottom h = omega arith
-offset-most (Hundredths (pos z)) h = omega (arith, decimal-most 9 z (omega arith))
-offset-most (Hundredths (negsuc k)) h = omega (arith, decimal-most 9 (k + 1) (omega arith))
+offset-most (Hundredths (pos z)) h = omega (arith, decimal-most 18 z (omega arith))
+offset-most (Hundredths (negsuc k)) h = omega (arith, decimal-most 18 (k + 1) (omega arith))
 
-pub field-most : (field : Field) → field .value < 10 ^ 10 → length (fieldText field) ≤ 13
+pub field-most : (field : Field) → field .value ≤ 18_446_744_073_709_551_615 → length (fieldText field) ≤ 22
 unfolding fieldText
 field-most field small =
     let letter = letter-cases (λ (l : List ℕ). length l ≤ 2) (field .kind) (omega arith) (omega arith) (omega arith) (omega arith) in
     let value =
-    value-cases (λ (l : List ℕ). length l ≤ 11) (field .kind) (field .value) (offset-most (offsetOf (field .value)) (omega (arith, one-to-one .forth (field .value))))
-    (omega (arith, decimal-most 9 (field .value) small)) in
+    value-cases (λ (l : List ℕ). length l ≤ 20) (field .kind) (field .value) (offset-most (offsetOf (field .value)) (omega (arith, one-to-one .forth (field .value))))
+    (omega (arith, decimal-most 19 (field .value) (omega arith))) in
     simp length-append (omega arith)
 
 -- ---- lines

@@ -17,7 +17,9 @@ use Rattle.tuple.specs.declared.reply.Reply.{Reply}
 -- ---- numbers
 
 abbrev pub numbers : List (ℕ × String)
-numbers = (0, "0") ∷ (9, "9") ∷ (10, "10") ∷ (109, "109") ∷ (32_767, "32767") ∷ (65_536, "65536") ∷ (4_294_967_295, "4294967295") ∷ []
+numbers =
+    (0, "0") ∷ (9, "9") ∷ (10, "10") ∷ (109, "109") ∷ (32_767, "32767") ∷ (65_536, "65536") ∷ (4_294_967_295, "4294967295")
+    ∷ (18_446_744_073_709_551_615, "18446744073709551615") ∷ []
 
 -- ---- tuples: kinds are 1 word, 2 count, 3 offset, 4 process set
 
@@ -26,7 +28,7 @@ given kind value = record { kind = kind; state = 0; value = value }
 
 -- of an offset the values are 0 for the mark, 1 + 2z for z from zero up, and -2z for z below zero
 abbrev pub six : Tuple
-six = record { count = 6; fields = given 1 255 ∷ given 2 4_294_967_295 ∷ given 3 0 ∷ given 3 1 ∷ given 3 80 ∷ given 4 2_147_483_647 ∷ [] }
+six = record { count = 6; fields = given 1 255 ∷ given 2 18_446_744_073_709_551_615 ∷ given 3 0 ∷ given 3 1 ∷ given 3 80 ∷ given 4 2_147_483_647 ∷ [] }
 
 -- what stands behind the second field is not printed
 abbrev pub two : Tuple
@@ -42,7 +44,7 @@ replies =
     (answer Done six, "12 done")
     ∷ (answer None six, "12 none")
     ∷ (answer Inserted six, "12 inserted")
-    ∷ (answer Found six, "12 found w255 c4294967295 o_ o0 o-40 s2147483647")
+    ∷ (answer Found six, "12 found w255 c18446744073709551615 o_ o0 o-40 s2147483647")
     ∷ (answer Held two, "12 held o100000 o-100000")
     ∷ (answer (Refused Denied) six, "12 refused 7")
     ∷ (answer (Refused Unborne) six, "12 refused 13")

@@ -75,7 +75,7 @@ call-bytes : (call : Call) → Typed call → callFault call ≡ Absent → Byte
 unfolding callBytes
 call-bytes call typed h =
     let sound = call-sound call h in
-    both-bytes (bytesOf (call .process)) _ (number-bytes (call .process) (typed .process))
+    both-bytes (bytesOf (call .process)) _ (number-bytes (call .process) (omega (arith, typed .process)))
     (both-bytes (bytesOf (call .code)) _ (number-bytes (call .code) (omega arith))
     (both-bytes (partBytes (usesTemplate (call .code)) (call .template)) _ (part-bytes _ false (call .template) (sound .template .fault))
     (part-bytes _ true (call .entry) (sound .entry .fault))))

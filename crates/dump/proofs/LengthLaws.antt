@@ -66,7 +66,7 @@ module _ (config : Config) (safe : sound config ≡ true) where
 
 -- ---- numbers
 
-pub width-step : (value : ℕ) → 128 ≤ value → value ≤ largestCount → widthOf value ≡ 1 + widthOf (value / 128)
+width-step : (value : ℕ) → 128 ≤ value → value ≤ largestCount → widthOf value ≡ 1 + widthOf (value / 128)
 width-step value some few = omega (arith, ap length (bytes-step value some (omega arith)))
 
 width-over : (most value : ℕ) → value ≤ largestCount → widthOf (value / 128) ≤ most → widthOf value ≤ most + 1
@@ -111,8 +111,8 @@ sound-at entry (suc n) (f ∷ fields) (suc i) h below inside = sound-at entry n 
 
 -- ---- tuples
 
--- so many fields of at most six bytes each
-counted-most : (n : ℕ) (tuple : Tuple) → tuple .count ≡ n → n ≤ 4 → tupleFault true tuple ≡ Absent → length (tupleBytes tuple) ≤ 25
+-- so many fields of at most eleven bytes each
+counted-most : (n : ℕ) (tuple : Tuple) → tuple .count ≡ n → n ≤ 4 → tupleFault true tuple ≡ Absent → length (tupleBytes tuple) ≤ 45
 counted-most n tuple counted few h =
     omega (
       arith,
@@ -141,10 +141,10 @@ module _ (template : Tuple) (long : length (template .fields) ≡ places) (h : t
   few : template .count ≤ places
   few = tuple-sound false template h .few
 
-  round-most : 1 < template .count → length (fieldBytes (field template 1)) ≤ 6
+  round-most : 1 < template .count → length (fieldBytes (field template 1)) ≤ 11
   round-most below = field-most (sound-at false (template .count) (template .fields) 1 (tuple-sound false template h .fields) below (omega arith))
 
-  weak-most : isWeakTemplate template ≡ true → length (tupleBytes template) ≤ 10
+  weak-most : isWeakTemplate template ≡ true → length (tupleBytes template) ≤ 15
   weak-most shape =
       let parts = shape-parts weakTemplateShape template shape in
       let counted = parts .counted in
@@ -161,7 +161,7 @@ module _ (template : Tuple) (long : length (template .fields) ≡ places) (h : t
         bare-length offset formal (field template 2) (parts .third) (omega arith) (omega arith) (omega arith),
       )
 
-  decision-most : isDecisionTemplate template ≡ true → length (tupleBytes template) ≤ 11
+  decision-most : isDecisionTemplate template ≡ true → length (tupleBytes template) ≤ 16
   decision-most shape =
       let parts = shape-parts decisionTemplateShape template shape in
       let counted = parts .counted in
@@ -202,9 +202,9 @@ module _ (template : Tuple) (long : length (template .fields) ≡ places) (h : t
         bare-length offset formal (field template 4) (asks .fifth) (omega arith) (omega arith) (omega arith),
       )
 
--- a list tuple: its position and its process have one byte each, its serial five at most, and its shift three
+-- a list tuple: its position and its process have one byte each, its serial ten at most, and its shift three
 list-tuple-most : (tuple : Tuple) → length (tuple .fields) ≡ places → tupleFault true tuple ≡ Absent → isListTuple tuple ≡ true
-    → positionOf tuple ≤ positions → listedProcess tuple < 128 → length (tupleBytes tuple) ≤ 17
+    → positionOf tuple ≤ positions → listedProcess tuple < 128 → length (tupleBytes tuple) ≤ 22
 unfolding largestOf
 list-tuple-most tuple long h shape low short =
     let parts = shape-parts listTupleShape tuple shape in
@@ -256,17 +256,17 @@ unfolding partFault usesEntry
 entry-faultless call faultless (inl e) = rw e at (call-sound call faultless .entry .fault)
 entry-faultless call faultless (inr e) = rw e at (call-sound call faultless .entry .fault)
 
--- the most bytes of a record that appends a tuple: six counts of five bytes under policy 0, a list tuple under policy 4, and a decision under the others
+-- the most bytes of a record that appends a tuple: six counts of ten bytes under policy 0, a list tuple under policy 4, and a decision under the others
 abbrev pub recordMost : Config → ℕ
-recordMost config = cond (eqb (config .policy) 0) 39 (cond (eqb (config .policy) 4) 27 38)
+recordMost config = cond (eqb (config .policy) 0) 69 (cond (eqb (config .policy) 4) 32 63)
 
-pub bare-most : (config : Config) → config .policy ≡ 0 → recordMost config ≡ 39
+pub bare-most : (config : Config) → config .policy ≡ 0 → recordMost config ≡ 69
 bare-most config none = rw (eq-eqb (config .policy) 0 none)
 
-pub deciding-most : (config : Config) → Deciding config → recordMost config ≡ 38
+pub deciding-most : (config : Config) → Deciding config → recordMost config ≡ 63
 deciding-most config decides = rw (ne-eqb (config .policy) 0 (λ e. omega arith), ne-eqb (config .policy) 4 (λ e. omega arith))
 
-pub listing-most : (config : Config) → config .policy ≡ 4 → recordMost config ≡ 27
+pub listing-most : (config : Config) → config .policy ≡ 4 → recordMost config ≡ 32
 listing-most config is-four = rw (ne-eqb (config .policy) 0 (λ e. omega arith), eq-eqb (config .policy) 4 is-four)
 
 module _ (config : Config) (tuple : Tuple) (call : Call) (sound : Sound call) (short : call .process < 128) (low : config .policy ≡ 4 → positionOf tuple ≤ positions) where

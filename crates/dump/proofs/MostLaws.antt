@@ -1,6 +1,6 @@
 -- The most bytes of a script, a buffer that has room for every one, and the longest. From the lengths of records.
 use mathlib.Core.Path.{_≡_, refl, ap, _∙_}
-use Prim.Native.Nat.{ℕ, zero, suc, _*_, _/_, _≤_, _<_}
+use Prim.Native.Nat.{ℕ, zero, suc, _*_, _≤_, _<_}
 use native.Mathlib.Omega.{arith}
 use native.Mathlib.Nat.{mul-suc}
 use mathlib.Core.Bool.{true, false}
@@ -11,7 +11,7 @@ use Rattle.dump.specs.Appending.{callOf, outBy, processOne}
 use Rattle.dump.specs.Dumps.{dumpCalls, dumpBytes, dumpMost, isReached, writtenOf}
 use Rattle.dump.specs.Laws.{LengthMost, AlwaysRoom, ListLengthMost, Wide, LengthAttained}
 use Rattle.dump.proofs.AnswerLaws.{unreached-answer, whole-answer, fits}
-use Rattle.dump.proofs.LengthLaws.{set-up-three, width-step, value-length, next, none-left, out-length}
+use Rattle.dump.proofs.LengthLaws.{set-up-three, value-length, next, none-left, out-length}
 use Rattle.dump.proofs.ReachLaws.{call-bare}
 use Rattle.dump.proofs.SoundCalls.{dump-most, list-most, mapped}
 use Rattle.dump.proofs.UnreachedLaws.{bare-reached}
@@ -27,12 +27,11 @@ use Rattle.space.proofs.SpaceRules.{Lawful, held-of, formed-of}
 use Rattle.calls.proofs.TabledSteps.{tabled-bare}
 use Rattle.tuple.specs.declared.field.Tuple.{Tuple}
 use Rattle.tuple.specs.declared.field.Call.{Call}
-use Rattle.tuple.specs.Bounds.{places, capacity, largestCount}
+use Rattle.tuple.specs.Bounds.{places, capacity}
 use Rattle.tuple.specs.Faults.{knownHead, fieldFault, fieldsFault, tupleFault, placeBlank, restFrom, restBlank, isEntry}
 use Rattle.tuple.specs.Fields.{count, defined, largestOf}
 use Rattle.tuple.specs.Shapes.{field, is}
-use Rattle.tuple.proofs.NoFault.{entry-small}
-use Rattle.varint.specs.Writing.{widthOf}
+use Rattle.varint.proofs.WritingLaws.{width-of-many}
 
 -- ---- the most
 
@@ -54,30 +53,13 @@ list-length-most space room n typed is-four e =
 
 -- ---- the longest
 
--- a number from 2^28 up has five bytes
-five-bytes : (value : ℕ) → 268_435_456 ≤ value → value ≤ largestCount → widthOf value ≡ 5
-five-bytes value some few =
-    let second = value / 128 in
-    let third = second / 128 in
-    let fourth = third / 128 in
-    omega (
-      arith,
-      width-step value (omega arith) few,
-      width-step second (omega arith) (omega arith),
-      width-step third (omega arith) (omega arith),
-      width-step fourth (omega arith) (omega arith),
-      width-one (fourth / 128) (omega arith),
-    )
-
-module _ (tuple : Tuple) (entry : isEntry tuple ≡ true) (long : length (tuple .fields) ≡ places) (wide : Wide tuple) where
-  wide-at : (i : ℕ) → i < 6 → length (fieldBytes (field tuple i)) ≡ 6
-  unfolding largestOf
+module _ (tuple : Tuple) (long : length (tuple .fields) ≡ places) (wide : Wide tuple) where
+  wide-at : (i : ℕ) → i < 6 → length (fieldBytes (field tuple i)) ≡ 11
   wide-at i below =
       let parts = wide .each i below in
-      let few : field tuple i .value ≤ largestCount = entry-small count tuple i entry (omega (arith, wide .six)) (parts .0) in
-      omega (arith, value-length count (field tuple i) (parts .0) (omega arith), five-bytes (field tuple i .value) (parts .1) few)
+      omega (arith, value-length count (field tuple i) (parts .0) (omega arith), width-of-many (field tuple i .value) (parts .1))
 
-  wide-tuple : length (tupleBytes tuple) ≡ 37
+  wide-tuple : length (tupleBytes tuple) ≡ 67
   wide-tuple =
       let six = wide .six in
       let few : tuple .count ≤ places = omega arith in
@@ -100,7 +82,7 @@ module _ (tuple : Tuple) (entry : isEntry tuple ≡ true) (long : length (tuple 
         none-left tuple long few 6 (omega arith),
       )
 
-  wide-record : length (callBytes (outBy processOne tuple)) ≡ 39
+  wide-record : length (callBytes (outBy processOne tuple)) ≡ 69
   wide-record = omega (arith, out-length (outBy processOne tuple) (omega arith) refl, wide-tuple)
 
 records-length : (each : ℕ) (calls : List Call) → ((call : Call) → List·Memᴰ call calls → length (callBytes call) ≡ each) → length (recordsBytes calls) ≡ each * length calls
@@ -120,18 +102,18 @@ module _ (config : Config) (tuples : List Tuple) (safe : sound config ≡ true) 
   lawful : Lawful config tuples
   lawful = record { few = omega arith; entries = λ tuple m. wide tuple m .0; table = tabled-bare config tuples (bare-other config bare) }
 
-  calls-length : (call : Call) → List·Memᴰ call (map (callOf config) tuples) → length (callBytes call) ≡ 39
+  calls-length : (call : Call) → List·Memᴰ call (map (callOf config) tuples) → length (callBytes call) ≡ 69
   calls-length call m =
       let of = mapped (callOf config) tuples m in
       let tuple = wide (of .0) (of .1) in
-      rw (of .2, call-bare config (of .0) bare) (wide-record (of .0) (tuple .0) (tuple .1) (tuple .2))
+      rw (of .2, call-bare config (of .0) bare) (wide-record (of .0) (tuple .1) (tuple .2))
 
   full-length : length (dumpBytes (spaceOf config tuples)) ≡ dumpMost
   unfolding dumpBytes dumpCalls
   full-length =
       let calls = map (callOf config) tuples in
       let set-up = set-up-three config safe (λ three. omega arith) in
-      let records = records-length 39 calls calls-length in
+      let records = records-length 69 calls calls-length in
       rw (held-of config tuples) (length-append (setUpBytes config) (recordsBytes calls) ∙ omega (arith, length-map tuples (callOf config)))
 
   attained : (room : ℕ) → dumpMost ≤ room → writtenOf (spaceOf config tuples) room ≡ Length dumpMost
@@ -139,15 +121,15 @@ module _ (config : Config) (tuples : List Tuple) (safe : sound config ≡ true) 
       whole-answer (spaceOf config tuples) room (formed-of config tuples safe lawful) (λ five. omega arith) (bare-reached config safe (λ five. omega arith) bare tuples lawful) (omega (arith, full-length))
       ∙ ap Length full-length
 
--- six times 2^28
+-- six times 2^63
 abbrev wideTuple : Tuple
-wideTuple = record { count = places; fields = replicate places (record { kind = count; state = defined; value = 268_435_456 }) }
+wideTuple = record { count = places; fields = replicate places (record { kind = count; state = defined; value = 9_223_372_036_854_775_808 }) }
 
 wide-entry : isEntry wideTuple ≡ true
 unfolding isEntry tupleFault fieldsFault fieldFault knownHead largestOf restBlank restFrom placeBlank
 wide-entry = refl
 
-wide-each : (i : ℕ) → i < 6 → (is count defined (field wideTuple i) ≡ true) × (268_435_456 ≤ field wideTuple i .value)
+wide-each : (i : ℕ) → i < 6 → (is count defined (field wideTuple i) ≡ true) × (9_223_372_036_854_775_808 ≤ field wideTuple i .value)
 wide-each zero h = (refl, omega arith)
 wide-each (suc zero) h = (refl, omega arith)
 wide-each (suc (suc zero)) h = (refl, omega arith)

@@ -128,7 +128,7 @@ module _ (space : Space) (typed : spaces.Typed space) (dumpable : Dumpable space
       let counted : length calls ≤ many = simp length-map (omega arith) in
       omega (arith, length-append (setUpBytes config) (recordsBytes calls), le-trans records (mul-le-mul-left (recordMost config) counted))
 
-  pub list-most : config .policy ≡ 4 → length (dumpBytes space) ≤ 3_027
+  pub list-most : config .policy ≡ 4 → length (dumpBytes space) ≤ 3_587
   list-most is-four =
       let most = script-most positions (orderly-few (orderly space typed dumpable is-four)) in
       omega (arith, rw (listing-most config is-four) at most, set-up-three config (safe space typed dumpable) (λ three. omega arith))

@@ -28,9 +28,9 @@ dumpCalls space = map (callOf (space .config)) (held space)
 unfoldable pub dumpBytes : Space → List ℕ
 dumpBytes space = setUpBytes (space .config) ++ recordsBytes (dumpCalls space)
 
--- the most bytes that it has: under policy 3 the set-up has four, but no record more than 38
+-- the most bytes that it has: under policy 3 the set-up has four, but no record more than 63
 abbrev pub dumpMost : ℕ
-dumpMost = 3 + capacity * 39
+dumpMost = 3 + capacity * 69
 
 -- ---- whether it ends in the space
 

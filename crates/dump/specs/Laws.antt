@@ -148,9 +148,9 @@ BufferRules = (space : Space) (buffer : List ℕ) → BufferRule space buffer
 
 -- ---- how long the script is
 
--- at most 9,987 bytes
+-- at most 17,667 bytes
 abbrev pub LengthMost : Type 0
-LengthMost = (space : Space) (room n : ℕ) → Typed space → writtenOf space room ≡ Length n → (n ≡ length (dumpBytes space)) × (n ≤ 9_987)
+LengthMost = (space : Space) (room n : ℕ) → Typed space → writtenOf space room ≡ Length n → (n ≡ length (dumpBytes space)) × (n ≤ 17_667)
 
 -- so a buffer of as many has room for the script of every space: there 10 never comes
 abbrev pub AlwaysRoom : Type 0
@@ -160,30 +160,30 @@ AlwaysRoom =
     → wellFormed space ≡ true
     → (space .config .policy ≡ 5 → ⊥)
     → (writtenOf space room ≡ Unwritten (refusal 14) → ⊥)
-    → 9_987 ≤ room
+    → 17_667 ≤ room
     → writtenOf space room ≡ Length (length (dumpBytes space))
 
--- under policy 4 at most 3,027: a set-up of three, and 27 for each of 112 tuples
+-- under policy 4 at most 3,587: a set-up of three, and 32 for each of 112 tuples
 abbrev pub ListLengthMost : Type 0
 ListLengthMost =
     (space : Space) (room n : ℕ)
     → Typed space
     → space .config .policy ≡ 4
     → writtenOf space room ≡ Length n
-    → (n ≡ length (dumpBytes space)) × (n ≤ 3_027)
+    → (n ≡ length (dumpBytes space)) × (n ≤ 3_587)
 
--- six counts from 2^28 up
+-- six counts from 2^63 up
 pub record Wide (tuple : Tuple) : Type 0 where
   pub six : tuple .count ≡ 6
-  pub each : (i : ℕ) → i < 6 → (is count defined (field tuple i) ≡ true) × (268_435_456 ≤ field tuple i .value)
+  pub each : (i : ℕ) → i < 6 → (is count defined (field tuple i) ≡ true) × (9_223_372_036_854_775_808 ≤ field tuple i .value)
 
--- 256 such tuples under policy 0 have exactly 9,987, and there are such
+-- 256 such tuples under policy 0 have exactly 17,667, and there are such
 pub record LengthAttained : Type 0 where
   pub each : (config : Config) (tuples : List Tuple) (room : ℕ)
       → sound config ≡ true
       → config .policy ≡ 0
       → length tuples ≡ 256
       → ((tuple : Tuple) → List·Memᴰ tuple tuples → (isEntry tuple ≡ true) × (length (tuple .fields) ≡ places) × Wide tuple)
-      → 9_987 ≤ room
-      → writtenOf (spaceOf config tuples) room ≡ Length 9_987
+      → 17_667 ≤ room
+      → writtenOf (spaceOf config tuples) room ≡ Length 17_667
   pub one : (tuple : Tuple) × (isEntry tuple ≡ true) × (length (tuple .fields) ≡ places) × Wide tuple

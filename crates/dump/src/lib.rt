@@ -7,5 +7,5 @@ use tuple::TUPLES;
 pub use writing::blank;
 pub use writing::write;
 
-// The most bytes of such a script: a set-up of three, and 39 for each tuple. Under policy 3 the set-up has four, but no record more than 38.
-pub const DUMP_BYTES: usize = 3 + 39 * TUPLES;
+// The most bytes of such a script: a set-up of three, and 69 for each tuple. Under policy 3 the set-up has four, but no record more than 63.
+pub const DUMP_BYTES: usize = 3 + 69 * TUPLES;

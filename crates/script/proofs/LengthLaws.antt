@@ -1,6 +1,6 @@
 -- How long a text is at most: of each line the most bytes, and of each record the least.
 use mathlib.Core.Path.{_≡_, refl, sym}
-use Prim.Native.Nat.{ℕ, _+_, _-_, _*_, _≤_, _<_}
+use Prim.Native.Nat.{ℕ, zero, suc, _+_, _-_, _*_, _^_, _≤_, _<_}
 use native.Mathlib.Omega.{arith}
 use mathlib.Core.Bool.{Bool, true, false, cond, and-eq-true-iff, false≢true}
 use mathlib.Core.List.{List, [], _∷_}
@@ -48,7 +48,7 @@ use Rattle.varint.proofs.WritingLaws.{width-least}
 
 -- ---- fields
 
-fields-most : (fields : List Field) → fieldsFault true fields ≡ Absent → length (fieldsText fields) ≤ 13 * length fields
+fields-most : (fields : List Field) → fieldsFault true fields ≡ Absent → length (fieldsText fields) ≤ 22 * length fields
 unfolding fieldsText
 fields-most [] h = omega arith
 fields-most (field ∷ fields) h =
@@ -56,7 +56,7 @@ fields-most (field ∷ fields) h =
     let few : field .value ≤ largestOf (field .kind) = cases (isDefined field) (sound .0 .small) (λ d. absurd (false≢true (sym (sound .0 .shaped d)))) in
     simp length-append (omega (arith, field-most field (omega (arith, kind-most (field .kind))), fields-most fields (sound .1)))
 
-tuple-most : (tuple : Tuple) → isEntry tuple ≡ true → length (tupleText tuple) ≤ 13 * tuple .count
+tuple-most : (tuple : Tuple) → isEntry tuple ≡ true → length (tupleText tuple) ≤ 22 * tuple .count
 unfolding isEntry tupleText
 tuple-most tuple entry =
     let sound = tuple-sound true tuple (absent _ (and-eq-true-iff (isAbsent (tupleFault true tuple)) _ .0 entry .0)) in
@@ -68,6 +68,29 @@ tuple-most tuple entry =
 asked : Call → ℕ
 asked call = cond (usesTemplate (call .code)) (call .template .count) 0
 
+-- an answer's most bytes, by the fields that its call asks for: a word, or a word and as many fields
+roomOf : ℕ → ℕ
+roomOf zero = 11
+roomOf (suc more) = 28 + 22 * more
+
+room-least : (fields : ℕ) → 11 ≤ roomOf fields
+unfolding roomOf
+room-least zero = omega arith
+room-least (suc more) = omega arith
+
+room-found : (fields : ℕ) → 1 ≤ fields → 6 + 22 * fields ≤ roomOf fields
+unfolding roomOf
+room-found zero some = absurd (omega arith)
+room-found (suc more) some = omega arith
+
+-- with a number of five digits and a line feed it is no longer than sixteen times the least bytes of the record: those of the process, the code and, if there
+-- is a template, the count and a head for each field. With six fields both are 144
+room-most : (used : Bool) (count : ℕ) → (used ≡ true → (1 ≤ count) × (count ≤ places)) → 6 + roomOf (cond used count 0) ≤ 16 * (2 + cond used (1 + count) 0)
+unfolding roomOf
+room-most false count range = omega arith
+room-most true zero range = absurd (omega (arith, range refl .0))
+room-most true (suc more) range = omega (arith, range refl .1)
+
 -- each field takes a byte, and so do the process, the code and the count
 fields-least : (fields : List Field) → length fields ≤ length (fieldsBytes fields)
 unfolding fieldsBytes
@@ -75,15 +98,14 @@ fields-least [] = omega arith
 fields-least (field ∷ fields) = simp length-append (omega (arith, head-room field, width-least (headNumber field), fields-least fields))
 
 part-least : (used : Bool) (tuple : Tuple) → length (tuple .fields) ≡ places → partFault tuple used false ≡ Absent
-    → cond used (tuple .count) 0 ≤ length (partBytes used tuple)
+    → cond used (1 + tuple .count) 0 ≤ length (partBytes used tuple)
 unfolding partBytes partFault
 part-least false tuple long sound = omega arith
 part-least true tuple long sound =
     let few = tuple-sound false tuple sound .few in
-    omega (arith, tuple-length tuple, fields-least (take (tuple .count) (tuple .fields)), length-take (tuple .count) (tuple .fields))
+    omega (arith, tuple-length tuple, width-least (tuple .count), fields-least (take (tuple .count) (tuple .fields)), length-take (tuple .count) (tuple .fields))
 
-call-least : (call : Call) → Typed call → callFault call ≡ Absent → 2 + asked call ≤ length (callBytes call)
-unfolding asked
+call-least : (call : Call) → Typed call → callFault call ≡ Absent → 2 + cond (usesTemplate (call .code)) (1 + call .template .count) 0 ≤ length (callBytes call)
 call-least call typed sound =
     omega (
       arith,
@@ -93,9 +115,17 @@ call-least call typed sound =
       part-least (usesTemplate (call .code)) (call .template) (typed .template) (call-sound call sound .template .fault),
     )
 
+-- a template has one field to six
+template-range : (call : Call) → callFault call ≡ Absent → usesTemplate (call .code) ≡ true → (1 ≤ call .template .count) × (call .template .count ≤ places)
+unfolding partFault
+template-range call sound uses =
+    let fault : tupleFault false (call .template) ≡ Absent = rw uses at (call-sound call sound .template .fault) in
+    let range = tuple-sound false (call .template) fault in
+    (range .some, range .few)
+
 module _ (tuples : List Tuple) (call : Call) (entries : Entries tuples) where
   -- a tuple that matches has as many fields as the template
-  found-most : (i : ℕ) → oldestOf tuples (call .template) ≡ At i → length (tupleText (getD tuples i blankTuple)) ≤ 13 * call .template .count
+  found-most : (i : ℕ) → oldestOf tuples (call .template) ≡ At i → length (tupleText (getD tuples i blankTuple)) ≤ 22 * call .template .count
   unfolding matches
   found-most i e =
       let oldest = oldest-rule .at tuples (call .template) i .0 e in
@@ -105,33 +135,34 @@ module _ (tuples : List Tuple) (call : Call) (entries : Entries tuples) where
 
   -- what an answer's text has at most
   Short : Effect → Type 0
-  Short done = length (replyText (done .reply)) ≤ 11 + 13 * asked call
+  Short done = length (replyText (done .reply)) ≤ roomOf (asked call)
 
   append-short : (how : Outcome) → length (outcomeText how blankTuple) ≤ 11 → Short (appends how (length tuples))
   unfolding Short outcomeText
   append-short how short =
-      picked (λ (done : Effect). length (replyText (done .reply)) ≤ 11 + 13 * asked call) (ltb (length tuples) capacity)
-      (λ e. omega arith)
-      (λ e. omega (arith, refusal-most (refusal 8)))
+      picked (λ (done : Effect). length (replyText (done .reply)) ≤ roomOf (asked call)) (ltb (length tuples) capacity)
+      (λ e. omega (arith, room-least (asked call)))
+      (λ e. omega (arith, room-least (asked call), refusal-most (refusal 8)))
 
-  asks : usesTemplate (call .code) ≡ true → asked call ≡ call .template .count
+  -- a found tuple has room behind its word
+  asks : 1 ≤ call .template .count → usesTemplate (call .code) ≡ true → 6 + 22 * call .template .count ≤ roomOf (asked call)
   unfolding asked
-  asks uses = rw uses
+  asks some uses = rw uses (room-found (call .template .count) some)
 
-  rdp-short : usesTemplate (call .code) ≡ true → (found : Found) → oldestOf tuples (call .template) ≡ found → Short (rdpEffect tuples found)
+  rdp-short : 1 ≤ call .template .count → usesTemplate (call .code) ≡ true → (found : Found) → oldestOf tuples (call .template) ≡ found → Short (rdpEffect tuples found)
   unfolding Short outcomeText
-  rdp-short uses (At i) e = omega (arith, asks uses, found-most i e)
-  rdp-short uses Nowhere e = omega arith
+  rdp-short some uses (At i) e = omega (arith, asks some uses, found-most i e)
+  rdp-short some uses Nowhere e = omega (arith, room-least (asked call))
 
-  inp-short : usesTemplate (call .code) ≡ true → (found : Found) → oldestOf tuples (call .template) ≡ found → Short (inpEffect tuples found)
+  inp-short : 1 ≤ call .template .count → usesTemplate (call .code) ≡ true → (found : Found) → oldestOf tuples (call .template) ≡ found → Short (inpEffect tuples found)
   unfolding Short outcomeText
-  inp-short uses (At i) e = omega (arith, asks uses, found-most i e)
-  inp-short uses Nowhere e = omega arith
+  inp-short some uses (At i) e = omega (arith, asks some uses, found-most i e)
+  inp-short some uses Nowhere e = omega (arith, room-least (asked call))
 
-  cas-short : usesTemplate (call .code) ≡ true → (found : Found) → oldestOf tuples (call .template) ≡ found → Short (casEffect tuples found)
+  cas-short : 1 ≤ call .template .count → usesTemplate (call .code) ≡ true → (found : Found) → oldestOf tuples (call .template) ≡ found → Short (casEffect tuples found)
   unfolding Short outcomeText
-  cas-short uses (At i) e = omega (arith, asks uses, found-most i e)
-  cas-short uses Nowhere e = append-short outcome.Inserted (omega arith)
+  cas-short some uses (At i) e = omega (arith, asks some uses, found-most i e)
+  cas-short some uses Nowhere e = append-short outcome.Inserted (omega arith)
 
   effect-short : callFault call ≡ Absent → Short (effect tuples call)
   unfolding effect usesTemplate outcomeText
@@ -140,14 +171,15 @@ module _ (tuples : List Tuple) (call : Call) (entries : Entries tuples) where
       let known = call-sound call sound in
       cases (eqb (call .code) out) (λ a. rw a (append-short outcome.Done (omega arith)))
       (λ a. let more : usesTemplate (call .code) ≡ true = rw (le-leb rdp (call .code) (omega (arith, known .low, eqb-false (call .code) out a)), le-leb (call .code) cas (known .high)) in
-      cases (eqb (call .code) rdp) (λ b. rw (a, b) (rdp-short more found refl))
-      (λ b. cases (eqb (call .code) inp) (λ c. rw (a, b, c) (inp-short more found refl)) (λ c. rw (a, b, c) (cas-short more found refl))))
+      let some = template-range call sound more .0 in
+      cases (eqb (call .code) rdp) (λ b. rw (a, b) (rdp-short some more found refl))
+      (λ b. cases (eqb (call .code) inp) (λ c. rw (a, b, c) (inp-short some more found refl)) (λ c. rw (a, b, c) (cas-short some more found refl))))
 
 module _ (space : Space) (call : Call) where
-  steps-short : {after : Applied} → Steps space call after → length (replyText (after .reply)) ≤ 11 + 13 * asked call
+  steps-short : {after : Applied} → Steps space call after → length (replyText (after .reply)) ≤ roomOf (asked call)
   unfolding outcomeText Short
-  steps-short (Steps.refuses why low) = omega (arith, refusal-most why)
-  steps-short (Steps.denies {why} d) = omega (arith, refusal-most why)
+  steps-short (Steps.refuses why low) = omega (arith, room-least (asked call), refusal-most why)
+  steps-short (Steps.denies {why} d) = omega (arith, room-least (asked call), refusal-most why)
   steps-short (Steps.obeys formed sound known p) = effect-short (held space) call (held-lawful space formed .entries) sound
 
 -- ---- lines
@@ -161,21 +193,23 @@ unfolding configLine
 config-most config n t policy k =
     simp length-append (omega (arith, spaced-most 1 (config .n) n, spaced-most 1 (config .t) t, spaced-most 1 (config .policy) policy, choices-most config k))
 
-pub line-most : {s : List ℕ} {at next : ℕ} {call : Call} (number : ℕ) (space : Space) → Read s at next call → number ≤ largest
+pub line-most : {s : List ℕ} {at next : ℕ} {call : Call} (number : ℕ) (space : Space) → Read s at next call → number < 10 ^ 5
     → at + length (replyLine number (applied space call .reply)) ≤ at + 16 * (next - at)
+unfolding asked
 line-most {call = call} number space read few =
     omega (
       arith,
       read .taken,
       reply-length number (applied space call .reply),
-      decimal-most 9 number (omega arith),
+      decimal-most 4 number few,
       steps-short space call (steps space call),
       call-least call (read .typed) (read .sound),
+      room-most (usesTemplate (call .code)) (call .template .count) (template-range call (read .sound)),
     )
 
-pub unread-most : (number : ℕ) (why : Refusal) → number ≤ largest → length (unreadLine number why) ≤ 22
+pub unread-most : (number : ℕ) (why : Refusal) → number < 10 ^ 5 → length (unreadLine number why) ≤ 17
 unfolding unreadLine
-unread-most number why few = simp length-append (omega (arith, decimal-most 9 number (omega arith), refused-most why))
+unread-most number why few = simp length-append (omega (arith, decimal-most 4 number few, refused-most why))
 
 pub held-most : (space : Space) → wellFormed space ≡ true → length (heldLine space) ≤ 18
 unfolding heldLine

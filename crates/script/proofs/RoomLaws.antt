@@ -1,6 +1,6 @@
 -- How long the text of a whole script is at most, so that its buffer has room: line by line, from the bounds of lines and records.
 use mathlib.Core.Path.{_≡_, refl, sym, ap, _∙_}
-use Prim.Native.Nat.{ℕ, zero, suc, _+_, _-_, _*_, _≤_, _<_}
+use Prim.Native.Nat.{ℕ, zero, suc, _+_, _-_, _*_, _^_, _≤_, _<_}
 use native.Mathlib.Omega.{arith}
 use mathlib.Core.Bool.{true, cond}
 use mathlib.Core.List.{List, _++_}
@@ -32,7 +32,7 @@ use Rattle.space.proofs.ConfigLaws.{sound-range, sound-choices}
 use Rattle.text.specs.Texts.{replyLine}
 use Rattle.text.proofs.LengthLaws.{refused-most}
 use Rattle.tuple.specs.Refusals.{refusal}
-use Rattle.varint.specs.Reading.{Bytes, largest}
+use Rattle.varint.specs.Reading.{Bytes}
 
 -- ---- the records
 
@@ -45,7 +45,7 @@ module _ (s : List ℕ) (bytes : Bytes s) (config : Config) (safe : sound config
       omega (arith, ap (λ r. length (linesOn number space r)) (records-end s at end), ap length (lines-end number space), held-most space (run-formed safe run))
 
   -- one record, if those behind it keep to the bound
-  inside-few : (at number : ℕ) (space : Space) → Run config space → number + length s ≤ at + largest → at < length s
+  inside-few : (at number : ℕ) (space : Space) → Run config space → number + length s < at + 10 ^ 5 → at < length s
       → ((next : ℕ) (after : Space) → Run config after → at + 2 ≤ next → Few next (number + 1) after)
       → (next : Next) → callAt s at .next ≡ next → Few at number space
   inside-few at number space run few here more (At cursor) e =
@@ -70,7 +70,7 @@ module _ (s : List ℕ) (bytes : Bytes s) (config : Config) (safe : sound config
         held-most space (run-formed safe run),
       )
 
-  lines-few : (left at number : ℕ) (space : Space) → Run config space → length s ≤ at + left → number + length s ≤ at + largest → Few at number space
+  lines-few : (left at number : ℕ) (space : Space) → Run config space → length s ≤ at + left → number + length s < at + 10 ^ 5 → Few at number space
   lines-few zero at number space run enough few = end-few at number space run (omega arith)
   lines-few (suc left) at number space run enough few =
       cases (ltb at (length s))

@@ -30,7 +30,7 @@ use Rattle.tuple.specs.Refusals.{numberOf, refusal}
 use Rattle.tuple.proofs.RefusalLaws.{numbered, numbered-back}
 use Rattle.varint.specs.declared.Number.{Number}
 use Rattle.varint.specs.declared.Number.the-variants.{Value, Cut, Overlong}
-use Rattle.varint.specs.Reading.{largest, further, numberFrom, numberAt, Bytes}
+use Rattle.varint.specs.Reading.{largest, lastGroup, further, numberFrom, numberAt, Bytes}
 use Rattle.varint.specs.Writing.{bytesOf, widthOf}
 use Rattle.varint.proofs.ReadingLaws.{only-form}
 
@@ -253,6 +253,6 @@ set-up-cut n t small-n small-t =
     let front = bytesOf n ++ bytesOf t ++ bytesOf 3 in
     let few : 3 ≤ largest = omega arith in
     let at = past n t 3 [] small-n small-t few in
-    let none : readNumber (front ++ []) at ≡ numberStep (numberFrom further [] at) =
-    ap (λ (l : List ℕ). numberStep (numberFrom further l at)) (at-tail n t 3 [] small-n small-t few) in
+    let none : readNumber (front ++ []) at ≡ numberStep (numberFrom lastGroup further [] at) =
+    ap (λ (l : List ℕ). numberStep (numberFrom lastGroup further l at)) (at-tail n t 3 [] small-n small-t few) in
     rw (append-nil front) at (front-read n t 3 [] small-n small-t few ∙ ap (kStep (with n t 3 0)) none)

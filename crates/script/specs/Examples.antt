@@ -71,8 +71,9 @@ rows =
     ∷ [])
     -- six fields, with the largest values of their kinds, and the mark
     ∷ ("04 01 00" prints "board 4 1 0"
-    ∷ "01 01 06 04 FF 01 08 FF FF FF FF 0F 0C C1 9A 0C 0C C0 9A 0C 10 FF FF FF FF 07 0C 00" prints "1 done"
-    ∷ "01 02 06 05 09 0D 0D 11 0D" prints "2 found w255 c4294967295 o100000 o-100000 s2147483647 o_"
+    ∷ "01 01 06 04 FF 01 08 FF FF FF FF FF FF FF FF FF 01 0C C1 9A 0C 0C C0 9A 0C 10 FF FF FF FF 07 0C 00"
+    prints "1 done"
+    ∷ "01 02 06 05 09 0D 0D 11 0D" prints "2 found w255 c18446744073709551615 o100000 o-100000 s2147483647 o_"
     ∷ "" prints "tuples 1"
     ∷ [])
     -- three tuples, of which inp takes the second off, and then the first; process 0
@@ -135,6 +136,29 @@ rows =
     ∷ "01 02 01 11" prints "2 found s32768"
     ∷ "" prints "tuples 1"
     ∷ [])
+    -- 2^32 + 1 as a count is read and printed; as a code, a head (2^32 + 4), a field count, a word, an offset and a process set it is refused by the rule of each
+    ∷ ("04 01 00" prints "board 4 1 0"
+    ∷ "01 01 01 08 81 80 80 80 10" prints "1 done"
+    ∷ "01 02 01 0A" prints "2 found c4294967297"
+    ∷ "" prints "tuples 1"
+    ∷ [])
+    ∷ ("04 01 00" prints "board 4 1 0" ∷ "01 81 80 80 80 10 01 04 01" prints "1 refused 4" ∷ "" prints "tuples 0" ∷ [])
+    ∷ ("04 01 00" prints "board 4 1 0" ∷ "01 01 01 84 80 80 80 10 01" prints "1 refused 4" ∷ "" prints "tuples 0" ∷ [])
+    ∷ ("04 01 00" prints "board 4 1 0" ∷ "01 01 81 80 80 80 10 04 01" prints "1 refused 5" ∷ "" prints "tuples 0" ∷ [])
+    ∷ ("04 01 00" prints "board 4 1 0" ∷ "01 01 01 04 81 80 80 80 10" prints "1 refused 3" ∷ "" prints "tuples 0" ∷ [])
+    ∷ ("04 01 00" prints "board 4 1 0" ∷ "01 01 01 0C 81 80 80 80 10" prints "1 refused 3" ∷ "" prints "tuples 0" ∷ [])
+    ∷ ("04 01 00" prints "board 4 1 0" ∷ "01 01 01 10 81 80 80 80 10" prints "1 refused 3" ∷ "" prints "tuples 0" ∷ [])
+    -- the largest process of a record reads; 2^32 + 1 is refused where it stands, before a code 9 and where the script ends
+    ∷ ("04 01 00" prints "board 4 1 0" ∷ "FF FF FF FF 0F 02 01 05" prints "1 refused 6" ∷ "00 02 01 05" prints "2 refused 6" ∷ "" prints "tuples 0" ∷ [])
+    ∷ ("04 01 00" prints "board 4 1 0" ∷ "81 80 80 80 10 01 01 04 01" prints "1 refused 3" ∷ "" prints "tuples 0" ∷ [])
+    ∷ ("04 01 00" prints "board 4 1 0" ∷ "81 80 80 80 10 09" prints "1 refused 3" ∷ "" prints "tuples 0" ∷ [])
+    ∷ ("04 01 00" prints "board 4 1 0" ∷ "81 80 80 80 10" prints "1 refused 3" ∷ "" prints "tuples 0" ∷ [])
+    -- counts that are cut after five bytes and after nine, and that have a tenth byte 02, a tenth byte 00, and eleven bytes
+    ∷ ("04 01 00" prints "board 4 1 0" ∷ "01 01 01 08 FF FF FF FF FF" prints "1 refused 2" ∷ "" prints "tuples 0" ∷ [])
+    ∷ ("04 01 00" prints "board 4 1 0" ∷ "01 01 01 08 FF FF FF FF FF FF FF FF FF" prints "1 refused 2" ∷ "" prints "tuples 0" ∷ [])
+    ∷ ("04 01 00" prints "board 4 1 0" ∷ "01 01 01 08 FF FF FF FF FF FF FF FF FF 02" prints "1 refused 3" ∷ "" prints "tuples 0" ∷ [])
+    ∷ ("04 01 00" prints "board 4 1 0" ∷ "01 01 01 08 80 80 80 80 80 80 80 80 80 00" prints "1 refused 3" ∷ "" prints "tuples 0" ∷ [])
+    ∷ ("04 01 00" prints "board 4 1 0" ∷ "01 01 01 08 FF FF FF FF FF FF FF FF FF FF 01" prints "1 refused 3" ∷ "" prints "tuples 0" ∷ [])
     -- policy 1: any in the place of open, the mark, round 8 and rdp are denied; a second cas of a round is held
     ∷ ("04 01 01" prints "board 4 1 1"
     ∷ "01 04 03 04 02 08 00 0D 03 04 02 08 00 0C 51" prints "1 refused 7"
@@ -225,10 +249,10 @@ rows =
     ∷ ("04 01" prints "refused 2" ∷ [])
     ∷ ("04 01 03" prints "refused 2" ∷ [])
     ∷ ("00 01 03" prints "refused 2" ∷ [])
-    -- numbers of a set-up that are not shortest, or too long: n, t, the policy number, k
+    -- numbers of a set-up that are not shortest, or too long, with a tenth byte 02: n, t, the policy number, k
     ∷ ("84 00 01 02" prints "refused 3" ∷ [])
     ∷ ("04 82 00 02" prints "refused 3" ∷ [])
-    ∷ ("04 FF FF FF FF 10 02" prints "refused 3" ∷ [])
+    ∷ ("04 FF FF FF FF FF FF FF FF FF 02 02" prints "refused 3" ∷ [])
     ∷ ("04 01 82 00" prints "refused 3" ∷ [])
     ∷ ("04 01 03 80 00" prints "refused 3" ∷ [])
     -- set-ups that are not sound: no process, thirty-two, n below 3t + 1 (also with the most processes, and where 3t + 1 would wrap), policy 6
@@ -238,6 +262,19 @@ rows =
     ∷ ("1F 0B 02" prints "refused 1" ∷ [])
     ∷ ("04 D5 AA D5 AA 05 02" prints "refused 1" ∷ [])
     ∷ ("04 01 06" prints "refused 1" ∷ [])
+    -- long numbers of a set-up: n and t that are 4 and 1 in their low 32 bits, the policies 2 and 3 (no k follows), and k; a long t
+    ∷ ("84 80 80 80 10 01 02" prints "refused 1" ∷ [])
+    ∷ ("04 81 80 80 80 10 02" prints "refused 1" ∷ [])
+    ∷ ("04 01 82 80 80 80 10" prints "refused 1" ∷ [])
+    ∷ ("04 01 83 80 80 80 10" prints "refused 1" ∷ [])
+    ∷ ("04 01 03 82 80 80 80 10" prints "refused 1" ∷ [])
+    ∷ ("04 FF FF FF FF 10 02" prints "refused 1" ∷ [])
+    -- a long n before a t that is cut, and before one that is not shortest
+    ∷ ("84 80 80 80 10 81" prints "refused 2" ∷ [])
+    ∷ ("84 80 80 80 10 81 00 02" prints "refused 3" ∷ [])
+    -- t where 3t + 1, and with eight choices 9t + 1, would wrap at 64 bits
+    ∷ ("04 D5 AA D5 AA D5 AA D5 AA 55 02" prints "refused 1" ∷ [])
+    ∷ ("0A F2 B8 9C 8E C7 E3 F1 B8 1C 03 08" prints "refused 1" ∷ [])
     -- one choice, nine choices, and n below (k + 1)t + 1
     ∷ ("04 01 03 01" prints "refused 1" ∷ [])
     ∷ ("0F 01 03 09" prints "refused 1" ∷ [])

@@ -19,6 +19,11 @@ unfoldable pub top : ℕ → ℕ
 top zero = 128
 top (suc more) = 128 * top more
 
+top-least : (more : ℕ) → 1 ≤ top more
+unfolding top
+top-least zero = omega arith
+top-least (suc more) = omega (arith, top-least more)
+
 pub groups-last : (more value : ℕ) → value < 128 → groupsOf more value ≡ value ∷ []
 unfolding groupsOf
 groups-last zero value h = refl
@@ -76,6 +81,14 @@ groups-most (suc k) (suc more) value h =
     (λ e. rw (groups-last (suc k) value (ltb-true value 128 e)) (omega arith))
     (λ e. rw (groups-step k value (ltb-false value 128 e)) (omega (arith, groups-most k more (value / 128) (omega arith))))
 
+-- and one that they do not hold takes more than that
+groups-many : (more k value : ℕ) → more < k → top more ≤ value → more + 2 ≤ length (groupsOf k value)
+unfolding top
+groups-many more zero value below h = absurd (omega arith)
+groups-many zero (suc k) value below h = rw (groups-step k value h) (omega (arith, groups-least k (value / 128)))
+groups-many (suc more) (suc k) value below h =
+    rw (groups-step k value (omega (arith, top-least more))) (omega (arith, groups-many more k (value / 128) (omega arith) (omega arith)))
+
 groups-all : (k value : ℕ) → length (groupsOf k value) ≤ k + 1
 unfolding groupsOf
 groups-all zero value = omega arith
@@ -92,6 +105,11 @@ width-most value = groups-all 9 value
 pub width-of-few : (value : ℕ) → value ≤ 4_294_967_295 → widthOf value ≤ 5
 unfolding bytesOf top
 width-of-few value h = groups-most 9 4 value (omega arith)
+
+-- one of 64 bits whose highest bit is set takes ten
+pub width-of-many : (value : ℕ) → 9_223_372_036_854_775_808 ≤ value → widthOf value ≡ 10
+unfolding bytesOf top
+width-of-many value h = omega (arith, width-most value, groups-many 8 9 value (omega arith) (omega arith))
 
 -- ---- what writing a number answers and leaves, by whether it is held and has room
 

@@ -101,7 +101,7 @@ pub extern "C" fn board_write(call: Call, buffer: &mut [u8]) -> u64
     recorded_number(record::write(call, buffer))
 }
 
-// Puts a script whose run ends in the space at the start of buffer: the script's length, at most 9,987, or 2^32 and the refusal's number: 1 for a
+// Puts a script whose run ends in the space at the start of buffer: the script's length, at most 17,667, or 2^32 and the refusal's number: 1 for a
 // space that is not well formed, then 15 for one of policy 5, then 14 for one that no script ends in, then 10 for a buffer that is shorter.
 #[no_mangle]
 pub extern "C" fn board_dump(space: Space, buffer: &mut [u8]) -> u64

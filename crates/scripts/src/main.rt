@@ -11,4 +11,5 @@ fn main() {
     case::cuts();
     made::unread();
     made::full();
+    made::longest();
 }

@@ -341,10 +341,11 @@ mod tests {
         assert_eq!(answer(&again, cas(2, 1, 1, 7, 5)), INSERTED);
         assert_eq!(answer(&again, cas(2, 1, 1, 7, 9)), DENIED);
         // Of seats that are none, nothing is owed.
-        let strange = [announced(0, 7, 5), announced(5, 7, 5), announced(4_294_967_295, 7, 5)];
+        let strangers = [0, 5, 4_294_967_295, (1 << 32) + 1, u64::MAX];
+        let strange = strangers.map(|seat| announced(seat, 7, 5));
         for process in 1..=4 {
             assert_eq!(answer(&strange, cas(process, 1, process.into(), 0, 5)), INSERTED);
-            for seat in [0, 5, 4_294_967_295] {
+            for seat in strangers {
                 assert_eq!(answer(&strange, cas(process, 1, seat, 7, 5)), DENIED);
             }
         }
@@ -355,7 +356,7 @@ mod tests {
         let list: Vec<Tuple> = (1..=111).map(|p| Tuple::listed(p, 1 + p % 4, p, 3)).collect();
         // Seat 4 is preferred at 112, and seat 1 would be at 113.
         let mut board = with(&[&[announced(4, 0, 5), announced(1, 0, 5)][..], &list].concat());
-        for position in [0, 113, 114, 255, 4_294_967_295] {
+        for position in [0, 113, 114, 255, 4_294_967_295, (1 << 32) + 112, u64::MAX] {
             for seat in [1, 4] {
                 assert_eq!(board.call(&cas(seat, position, seat.into(), 0, 5)), DENIED, "{position}");
             }

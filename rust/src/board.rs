@@ -313,7 +313,7 @@ mod tests {
         let good = Call::rdp(1, number(1));
         let mut board = bare();
         board.count = 2;
-        board.tuples[0] = Tuple::decision(4_294_967_295, 0, Kind::Seats.last());
+        board.tuples[0] = Tuple::decision(18_446_744_073_709_551_615, 0, Kind::Seats.last());
         board.tuples[1] = number(9);
         assert_eq!(board.check(), Ok(()));
         let spoilt: [fn(&mut Board); 14] = [
@@ -322,7 +322,7 @@ mod tests {
             |board| board.count = MOST_TUPLES + 1,
             |board| board.count = usize::MAX,
             |board| board.tuples[1].fields[0] = ANY,
-            |board| board.tuples[1].fields[0].value = 1 << 32,
+            |board| board.tuples[0].fields[3].value = 1 << 32,
             |board| board.tuples[1].fields[5].value = 1,
             |board| board.tuples[MOST_TUPLES - 1].fields[5].value = 1,
             |board| board.config.policy = 3,

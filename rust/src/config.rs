@@ -139,7 +139,7 @@ mod tests {
                 assert_eq!(strong(MOST_SEATS, t, k).check(), Err(Unsound), "{t} {k}");
             }
         }
-        for k in [0, 1, 9, u64::from(u32::MAX), u64::MAX - 1, u64::MAX] {
+        for k in [0, 1, 9, 4_294_967_295, (1 << 32) + 2, u64::MAX - 1, u64::MAX] {
             for t in [0, 1, 10, u64::MAX] {
                 assert_eq!(strong(MOST_SEATS, t, k).check(), Err(Unsound), "{t} {k}");
             }

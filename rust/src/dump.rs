@@ -59,8 +59,7 @@ fn set_up(config: &Config) -> Vec<u8> {
     let Config { n, t, policy, k } = *config;
     let mut script = Vec::with_capacity(LONGEST_DUMP);
     for number in [n, t, policy].into_iter().chain((policy == STRONG).then_some(k)) {
-        // The numbers of a sound set-up are at most 31.
-        write_number(number as u32, &mut script);
+        write_number(number, &mut script);
     }
     script
 }
@@ -134,10 +133,10 @@ mod tests {
     fn end_of(script: &[u8], config: Config) -> Board {
         let mut reader = Reader::new(script);
         for number in [config.n, config.t, config.policy] {
-            assert_eq!(reader.number().map(u64::from), Ok(number));
+            assert_eq!(reader.number(), Ok(number));
         }
         if config.policy == STRONG {
-            assert_eq!(reader.number().map(u64::from), Ok(config.k));
+            assert_eq!(reader.number(), Ok(config.k));
         }
         let mut board = Board::fresh(config).unwrap();
         while !reader.at_end() {
@@ -254,12 +253,12 @@ mod tests {
     #[test]
     fn under_policy_4_each_is_a_cas_by_its_seat() {
         let four = config(4, 1, LIST);
-        let list = [(1, 4, 0, 0x50), (2, 1, 0, 0x51), (3, 4, u32::MAX.into(), 1)];
+        let list = [(1, 4, 0, 0x50), (2, 1, 0, 0x51), (3, 4, u64::MAX, 1)];
         let [first, second, third] = list.map(|(p, q, s, v)| Tuple::listed(p, q, s, v));
         let script = "04 01 04
             04 04 05 04 03 08 01 09 09 0E 05 04 03 08 01 08 04 08 00 0C 50
             01 04 05 04 03 08 02 09 09 0E 05 04 03 08 02 08 01 08 00 0C 51
-            04 04 05 04 03 08 03 09 09 0E 05 04 03 08 03 08 04 08 FF FF FF FF 0F 0C 01";
+            04 04 05 04 03 08 03 09 09 0E 05 04 03 08 03 08 04 08 FF FF FF FF FF FF FF FF FF 01 0C 01";
         assert_eq!(written(&with(four, &[first, second, third])), hex(script));
         // Out of order, with a gap, a position twice, a seat and serial twice.
         refused(four, &[second]);
@@ -271,7 +270,7 @@ mod tests {
         refused(four, &[first, second, Tuple::listed(3, 4, 0, 0x50)]);
         // A position, a seat, a mark or another tuple that nobody may list.
         refused(four, &[Tuple::listed(0, 1, 0, 3)]);
-        for seat in [0, 5, 31, 4_294_967_295] {
+        for seat in [0, 5, 31, 4_294_967_295, (1 << 32) + 1, u64::MAX] {
             refused(four, &[Tuple::listed(1, seat, 0, 3)]);
             refused(four, &[first, Tuple::listed(2, seat, 1, 3)]);
         }
@@ -332,15 +331,15 @@ mod tests {
     #[test]
     fn the_longest_list() {
         let list = |last: u64| -> Vec<Tuple> {
-            let listed = |p| Tuple::listed(p, 1 + p % 31, (1 << 28) + p, 200_001);
+            let listed = |p| Tuple::listed(p, 1 + p % 31, (1 << 63) + p, 200_001);
             (1..=last).map(listed).collect()
         };
-        // 27 bytes for each position.
+        // 32 bytes for each position.
         for last in [1, 2, 111, 112] {
             let board = with(config(31, 10, LIST), &list(last));
-            assert_eq!(written(&board).len(), 3 + 27 * last as usize);
+            assert_eq!(written(&board).len(), 3 + 32 * last as usize);
         }
-        assert_eq!(written(&with(config(31, 10, LIST), &list(112))).len(), 3_027);
+        assert_eq!(written(&with(config(31, 10, LIST), &list(112))).len(), 3_587);
         refused(config(31, 10, LIST), &list(113));
         refused(config(31, 10, LIST), &list(MOST_TUPLES as u64));
     }
@@ -368,10 +367,10 @@ mod tests {
         unsound(four, &[decision, Tuple::proposal(0, 1, 0)]);
         written(&with(four, &[first, Tuple::proposal(1, 1, 0x50)]));
         // A seat, a round or a set that nobody may propose or decide.
-        for seat in [0, 5, 31, 4_294_967_295] {
+        for seat in [0, 5, 31, 4_294_967_295, (1 << 32) + 1, u64::MAX] {
             refused(four, &[Tuple::proposal(0, seat, 3)]);
         }
-        for round in [8, 4_294_967_295] {
+        for round in [8, 4_294_967_295, 1 << 32, u64::MAX] {
             refused(four, &[Tuple::proposal(round, 1, 3)]);
             let both = [Tuple::proposal(round, 1, 3), Tuple::proposal(round, 2, 3)];
             refused(four, &[both[0], both[1], Tuple::decision(round, 3, 0b0011)]);
@@ -457,15 +456,15 @@ mod tests {
 
     #[test]
     fn the_longest_script() {
-        for value in [1 << 28, u32::MAX.into()] {
+        for value in [1 << 63, u64::MAX] {
             let counts = Tuple::of(&[Field::given(Kind::Count, value); MOST_FIELDS]);
             let board = with(config(31, 10, 0), &[counts; MOST_TUPLES]);
-            assert_eq!(written(&board).len(), 9_987);
+            assert_eq!(written(&board).len(), 17_667);
         }
-        assert_eq!(LONGEST_DUMP, 9_987);
-        let counts = Tuple::of(&[Field::given(Kind::Count, (1 << 28) - 1); MOST_FIELDS]);
+        assert_eq!(LONGEST_DUMP, 17_667);
+        let counts = Tuple::of(&[Field::given(Kind::Count, (1 << 63) - 1); MOST_FIELDS]);
         let board = with(config(31, 10, 0), &[counts; MOST_TUPLES]);
-        assert_eq!(written(&board).len(), 9_987 - 6 * 256);
+        assert_eq!(written(&board).len(), 17_667 - 6 * 256);
     }
 
     #[test]

@@ -1,4 +1,4 @@
-//! Fields, tuples and matching (01, "Fields and tuples", and 02, 2.8).
+//! Fields, tuples and matching (01, "Fields and tuples", and 02, 2.8 and 2.10).
 //!
 //! `Field` and `Tuple` are plain values that can hold anything; `check` tells
 //! whether they hold something that 01 allows, and if not, which fault is the
@@ -37,15 +37,15 @@ impl Kind {
     pub const ALL: [Kind; 4] = [Kind::Word, Kind::Count, Kind::Offset, Kind::Seats];
 
     /// The kind with this number.
-    pub fn from_number(number: u32) -> Option<Kind> {
-        Kind::ALL.into_iter().find(|kind| *kind as u32 == number)
+    pub fn from_number(number: u64) -> Option<Kind> {
+        Kind::ALL.into_iter().find(|kind| *kind as u64 == number)
     }
 
     /// The largest value (for an offset, travelling number) of this kind.
     pub const fn last(self) -> u64 {
         match self {
             Kind::Word => 255,
-            Kind::Count => u32::MAX as u64,
+            Kind::Count => u64::MAX,
             Kind::Offset => Offset::LAST,
             Kind::Seats => (1 << MOST_SEATS) - 1,
         }
@@ -78,8 +78,8 @@ impl State {
     pub const ALL: [State; 3] = [State::Given, State::Any, State::Open];
 
     /// The state with this number.
-    pub fn from_number(number: u32) -> Option<State> {
-        State::ALL.into_iter().find(|state| *state as u32 == number)
+    pub fn from_number(number: u64) -> Option<State> {
+        State::ALL.into_iter().find(|state| *state as u64 == number)
     }
 }
 
@@ -121,7 +121,7 @@ impl Field {
 
     /// The field's kind and state, if there are such.
     pub fn head(&self) -> Option<(Kind, State)> {
-        Some((Kind::from_number(self.kind)?, State::from_number(self.state)?))
+        Some((Kind::from_number(self.kind.into())?, State::from_number(self.state.into())?))
     }
 
     /// The value, if this is a given field of that kind.
@@ -331,13 +331,18 @@ mod tests {
 
     #[test]
     fn ranges_of_the_kinds() {
-        for (kind, last) in Kind::ALL.into_iter().zip([255, 4_294_967_295, 200_001, 2_147_483_647]) {
+        for (kind, last) in [(Kind::Word, 255), (Kind::Offset, 200_001), (Kind::Seats, 2_147_483_647)] {
             for role in [Role::Template, Role::Entry] {
                 assert_eq!(Field::given(kind, 0).check(role), Ok(()));
                 assert_eq!(Field::given(kind, last).check(role), Ok(()));
-                assert_eq!(Field::given(kind, last + 1).check(role), Err(Refusal::Value));
-                assert_eq!(Field::given(kind, u64::MAX).check(role), Err(Refusal::Value));
+                for beyond in [last + 1, 1 << 32, (1 << 32) + last, 1 << 63, u64::MAX] {
+                    assert_eq!(Field::given(kind, beyond).check(role), Err(Refusal::Value), "{beyond}");
+                }
             }
+        }
+        for value in [0, 4_294_967_295, 4_294_967_296, 1 << 63, 18_446_744_073_709_551_615] {
+            assert_eq!(Field::given(Kind::Count, value).check(Role::Template), Ok(()));
+            assert_eq!(Field::given(Kind::Count, value).check(Role::Entry), Ok(()));
         }
     }
 
@@ -408,6 +413,9 @@ mod tests {
         let longer = Tuple::of(&[Field::given(Kind::Word, 1); 2]);
         assert!(!worded.matches(&longer));
         assert!(!longer.matches(&worded));
+        // Counts that differ in their high bits alone.
+        let long = Tuple::of(&[Field::given(Kind::Count, (1 << 32) + 1)]);
+        assert!(long.matches(&long) && !long.matches(&counted) && !counted.matches(&long));
         // The mark is not zero, and 40 is not -40.
         let mark = Tuple::of(&[Field::given(Kind::Offset, 0)]);
         let zero = Tuple::of(&[Field::given(Kind::Offset, 1)]);

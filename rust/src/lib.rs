@@ -1,12 +1,12 @@
-//! The shared offset board of document 01 with requests 2.1 to 2.4 and 2.6 to 2.9
-//! of document 02, read independently and written plainly: safe Rust, std only.
+//! The shared offset board of document 01 with requests 2.1 to 2.4 and 2.6 to
+//! 2.10 of document 02, read independently and written plainly: safe Rust, std only.
 //! Records and matching lie below policies and board, which lie below the seat
 //! procedure and the program.
 //!
 //! `sys` and `flat` stand apart: they reach the proved library, for the tests
-//! that compare the two (tests/compare.rs, lists.rs and together.rs) and for
-//! the benchmark (the program bench). So does `tabled`, which is the benchmark's
-//! alone.
+//! that compare the two (tests/compare.rs, numbers.rs, lists.rs and together.rs)
+//! and for the benchmark (the program bench). So does `tabled`, which is the
+//! benchmark's alone.
 
 pub mod refusal;
 

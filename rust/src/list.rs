@@ -78,9 +78,12 @@ mod tests {
         assert_eq!(board.call(&cas(1, 1, 0, 3)), INSERTED);
         assert_eq!(board.call(&cas(3, 1, 1, 3)), DENIED);
         assert_eq!(board.call(&cas(2, 4, 0, 2)), INSERTED, "a serial is its seat's alone");
-        assert_eq!(board.call(&cas(3, 1, 4_294_967_295, 1)), INSERTED, "0 is not the mark");
+        assert_eq!(board.call(&cas(3, 1, u64::MAX, 1)), INSERTED, "0 is not the mark");
         assert_eq!(board.call(&cas(4, 1, 1, 200_001)), INSERTED, "serials need no order");
-        let list = [(1, 1, 0, 3), (2, 4, 0, 2), (3, 1, 4_294_967_295, 1), (4, 1, 1, 200_001)];
+        assert_eq!(board.call(&cas(5, 1, 1 << 32, 5)), INSERTED, "a serial is not its low bits");
+        assert_eq!(board.call(&cas((1 << 32) + 6, 1, 2, 5)), DENIED, "nor is a position");
+        let long = [(3, 1, u64::MAX, 1), (4, 1, 1, 200_001), (5, 1, 1 << 32, 5)];
+        let list = [(1, 1, 0, 3), (2, 4, 0, 2), long[0], long[1], long[2]];
         assert_eq!(board.held(), list.map(|(p, q, s, v)| Tuple::listed(p, q, s, v)));
     }
 
@@ -106,7 +109,7 @@ mod tests {
     fn only_its_own_number_and_no_mark() {
         let board = with(&[Tuple::listed(1, 1, 0, 3)]);
         let answer = |call: Call| board.clone().call(&call);
-        for seat in [0, 1, 3, 5, 31, 4_294_967_295] {
+        for seat in [0, 1, 3, 5, 31, 4_294_967_295, (1 << 32) + 2, u64::MAX] {
             let mut call = cas(2, 2, 9, 3);
             call.entry.fields[2].value = seat;
             assert_eq!(answer(call), DENIED, "{seat}");
@@ -122,7 +125,7 @@ mod tests {
     fn positions_are_1_to_112() {
         let list: Vec<Tuple> = (1..=111).map(|p| Tuple::listed(p, 1 + p % 4, p, 3)).collect();
         let mut board = with(&list);
-        for position in [0, 113, 114, 255, 4_294_967_295] {
+        for position in [0, 113, 114, 255, 4_294_967_295, (1 << 32) + 112, u64::MAX] {
             assert_eq!(board.call(&cas(position, 1, 0, 3)), DENIED, "{position}");
         }
         assert_eq!(board.call(&cas(112, 1, 0, 3)), INSERTED);

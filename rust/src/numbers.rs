@@ -1,27 +1,27 @@
 //! Numbers in groups of seven bits, and the travelling number of an offset
-//! (01, "Bytes").
+//! (01, "Bytes", and 02, 2.10).
 
 use crate::refusal::Refusal;
 
 /// A number takes at most this many bytes.
-pub const LONGEST_NUMBER: usize = 5;
+pub const LONGEST_NUMBER: usize = 10;
 
-/// The fifth byte of a number may be at most this.
-const LAST_FIFTH: u8 = 0x0F;
+/// The tenth byte of a number may be at most this.
+const LAST_TENTH: u8 = 0x01;
 
 /// Reads the number at the front of `bytes`; answers it and how many bytes it took.
-pub fn read_number(bytes: &[u8]) -> Result<(u32, usize), Refusal> {
+pub fn read_number(bytes: &[u8]) -> Result<(u64, usize), Refusal> {
     read_group(bytes, 1)
 }
 
 /// The rule as it reads: the low seven bits of the first byte, plus 128 times
 /// the number that follows if the top bit is set. `place` counts from 1.
-fn read_group(bytes: &[u8], place: usize) -> Result<(u32, usize), Refusal> {
+fn read_group(bytes: &[u8], place: usize) -> Result<(u64, usize), Refusal> {
     let (&first, rest) = bytes.split_first().ok_or(Refusal::Ended)?;
-    if place == LONGEST_NUMBER && first > LAST_FIFTH {
+    if place == LONGEST_NUMBER && first > LAST_TENTH {
         return Err(Refusal::Value);
     }
-    let low = u32::from(first & 0x7F);
+    let low = u64::from(first & 0x7F);
     if first & 0x80 != 0 {
         let (high, taken) = read_group(rest, place + 1)?;
         Ok((low + 128 * high, taken + 1))
@@ -33,7 +33,7 @@ fn read_group(bytes: &[u8], place: usize) -> Result<(u32, usize), Refusal> {
 }
 
 /// Appends the shortest writing of `value`.
-pub fn write_number(value: u32, out: &mut Vec<u8>) {
+pub fn write_number(value: u64, out: &mut Vec<u8>) {
     let mut left = value;
     while left >= 128 {
         out.push((left & 0x7F) as u8 | 0x80);
@@ -88,7 +88,7 @@ impl Offset {
 mod tests {
     use super::*;
 
-    fn written(value: u32) -> Vec<u8> {
+    fn written(value: u64) -> Vec<u8> {
         let mut out = Vec::new();
         write_number(value, &mut out);
         out
@@ -96,13 +96,20 @@ mod tests {
 
     #[test]
     fn edge_values_of_numbers() {
-        let rows: [(u32, &[u8]); 6] = [
+        let rows: [(u64, &[u8]); 13] = [
             (0, &[0x00]),
             (127, &[0x7F]),
             (128, &[0x80, 0x01]),
             (16_384, &[0x80, 0x80, 0x01]),
             (268_435_456, &[0x80, 0x80, 0x80, 0x80, 0x01]),
-            (u32::MAX, &[0xFF, 0xFF, 0xFF, 0xFF, 0x0F]),
+            (4_294_967_295, &[0xFF, 0xFF, 0xFF, 0xFF, 0x0F]),
+            (4_294_967_296, &[0x80, 0x80, 0x80, 0x80, 0x10]),
+            (4_563_402_751, &[0xFF, 0xFF, 0xFF, 0xFF, 0x10]),
+            (34_359_738_367, &[0xFF, 0xFF, 0xFF, 0xFF, 0x7F]),
+            (34_359_738_368, &[0x80, 0x80, 0x80, 0x80, 0x80, 0x01]),
+            ((1 << 63) - 1, &[0xFF, 0xFF, 0xFF, 0xFF, 0xFF, 0xFF, 0xFF, 0xFF, 0x7F]),
+            (1 << 63, &[0x80, 0x80, 0x80, 0x80, 0x80, 0x80, 0x80, 0x80, 0x80, 0x01]),
+            (18_446_744_073_709_551_615, &[0xFF, 0xFF, 0xFF, 0xFF, 0xFF, 0xFF, 0xFF, 0xFF, 0xFF, 0x01]),
         ];
         for (value, bytes) in rows {
             assert_eq!(read_number(bytes), Ok((value, bytes.len())));
@@ -112,19 +119,55 @@ mod tests {
 
     #[test]
     fn refused_numbers() {
-        let rows: [(&[u8], Refusal); 9] = [
+        let rows: [(&[u8], Refusal); 11] = [
             (&[], Refusal::Ended),
             (&[0x80], Refusal::Ended),
             (&[0x80, 0x80, 0x80, 0x80], Refusal::Ended),
+            (&[0xFF, 0xFF, 0xFF, 0xFF, 0x80], Refusal::Ended),
+            (&[0x80; 9], Refusal::Ended),
+            (&[0x80; 10], Refusal::Value),
+            (&[0xFF; 11], Refusal::Value),
             (&[0x80, 0x00], Refusal::Value),
-            (&[0xFF, 0xFF, 0xFF, 0xFF, 0x10], Refusal::Value),
-            (&[0xFF, 0xFF, 0xFF, 0xFF, 0x80], Refusal::Value),
-            (&[0xFF, 0xFF, 0xFF, 0xFF, 0xFF, 0x01], Refusal::Value),
             (&[0xFF, 0xFF, 0xFF, 0xFF, 0x00], Refusal::Value),
+            (&[0xFF, 0xFF, 0xFF, 0xFF, 0xFF, 0x00], Refusal::Value),
             (&[0x81, 0x80, 0x00, 0x01], Refusal::Value),
         ];
         for (bytes, refusal) in rows {
             assert_eq!(read_number(bytes), Err(refusal), "{bytes:02X?}");
+        }
+    }
+
+    #[test]
+    fn the_tenth_byte() {
+        for front in [[0x80; 9], [0xFF; 9], [0x80, 0x81, 0x82, 0x83, 0x84, 0x85, 0x86, 0x87, 0x88]] {
+            for tenth in 0..=255 {
+                let bytes = [&front[..], &[tenth]].concat();
+                for behind in [&[][..], &[0x00], &[0x01], &[0xFF]] {
+                    let read = read_number(&[&bytes, behind].concat());
+                    match tenth {
+                        1 => assert_eq!(
+                            read.map(|(value, taken)| (written(value), taken)),
+                            Ok((bytes.clone(), 10))
+                        ),
+                        _ => assert_eq!(read, Err(Refusal::Value), "{bytes:02X?}"),
+                    }
+                }
+            }
+            for cut in 0..=9 {
+                assert_eq!(read_number(&front[..cut]), Err(Refusal::Ended));
+            }
+        }
+    }
+
+    #[test]
+    fn every_bit_stands_where_it_belongs() {
+        for bit in 0..64 {
+            for value in [1 << bit, (1 << bit) - 1, u64::MAX >> bit, u64::MAX << bit] {
+                let bytes = written(value);
+                assert_eq!(read_number(&bytes), Ok((value, bytes.len())));
+                let bits = 64 - value.leading_zeros() as usize;
+                assert_eq!(bytes.len(), bits.div_ceil(7).max(1), "{value}");
+            }
         }
     }
 

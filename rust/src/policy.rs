@@ -393,8 +393,8 @@ mod tests {
     #[test]
     fn proposals_that_no_run_makes() {
         // Those of seats that are none, and of a round that is none, do no harm, whatever they are and how often.
-        let strangers = [0, 5, 31, 4_294_967_295].map(|q| Tuple::proposal(0, q, 7));
-        let late = [1, 2, 3, 4].map(|q| Tuple::proposal(8, q, 7));
+        let strangers = [0, 5, 31, 4_294_967_295, (1 << 32) + 4].map(|q| Tuple::proposal(0, q, 7));
+        let late = [(8, 1), (8, 2), (8, 3), (8, 4), (1 << 32, 4)].map(|(r, q)| Tuple::proposal(r, q, 7));
         let mut tuples = [strangers, late, strangers, late].concat();
         tuples.extend([(1, 9), (2, 9), (3, 7), (4, 5)].map(|(q, w)| Tuple::proposal(0, q, w)));
         let answer = |tuples: &[Tuple], call: Call| with(4, 1, tuples).call(&call);

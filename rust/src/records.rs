@@ -1,11 +1,12 @@
-//! Calls, and the records they travel in: reader and writer (01, "Bytes").
+//! Calls, and the records they travel in: reader and writer (01, "Bytes", and
+//! 02, 2.10).
 
 use crate::fields::{Field, Kind, Role, State, Tuple, MOST_FIELDS};
 use crate::numbers::{read_number, write_number};
 use crate::refusal::Refusal;
 
 /// The longest record has this many bytes.
-pub const LONGEST_RECORD: usize = 80;
+pub const LONGEST_RECORD: usize = 140;
 
 /// Which call it is.
 #[derive(Clone, Copy, Debug, PartialEq, Eq, Hash)]
@@ -22,8 +23,8 @@ impl Code {
     pub const ALL: [Code; 4] = [Code::Out, Code::Rdp, Code::Inp, Code::Cas];
 
     /// The code with this number.
-    pub fn from_number(number: u32) -> Option<Code> {
-        Code::ALL.into_iter().find(|code| *code as u32 == number)
+    pub fn from_number(number: u64) -> Option<Code> {
+        Code::ALL.into_iter().find(|code| *code as u64 == number)
     }
 
     /// Whether a record of this call has a template.
@@ -80,7 +81,7 @@ impl Call {
     /// The first fault of a call handed in, refused 3 to 5 in record order with
     /// unused parts last; or which call it is.
     pub fn check(&self) -> Result<Code, Refusal> {
-        let code = Code::from_number(self.code).ok_or(Refusal::Unknown)?;
+        let code = Code::from_number(self.code.into()).ok_or(Refusal::Unknown)?;
         if code.has_template() {
             self.template.check(Role::Template)?;
         }
@@ -123,7 +124,7 @@ impl<'a> Reader<'a> {
     }
 
     /// The next number.
-    pub fn number(&mut self) -> Result<u32, Refusal> {
+    pub fn number(&mut self) -> Result<u64, Refusal> {
         let (value, taken) = read_number(&self.bytes[self.taken..])?;
         self.taken += taken;
         Ok(value)
@@ -135,7 +136,7 @@ impl<'a> Reader<'a> {
         let mut field = Field { kind: kind as u32, state: state as u32, value: 0 };
         field.check(role)?;
         if state == State::Given {
-            field.value = self.number()?.into();
+            field.value = self.number()?;
             field.check(role)?;
         }
         Ok(field)
@@ -157,9 +158,14 @@ impl<'a> Reader<'a> {
         Ok(tuple)
     }
 
+    /// The next bare seat number, which ends at 4,294,967,295: above it 3.
+    fn seat(&mut self) -> Result<u32, Refusal> {
+        u32::try_from(self.number()?).map_err(|_| Refusal::Value)
+    }
+
     /// The next record.
     pub fn record(&mut self) -> Result<Call, Refusal> {
-        let process = self.number()?;
+        let process = self.seat()?;
         let code = Code::from_number(self.number()?).ok_or(Refusal::Unknown)?;
         let mut call = Call { process, code: code as u32, ..Call::default() };
         if code.has_template() {
@@ -173,7 +179,7 @@ impl<'a> Reader<'a> {
 }
 
 /// Kind and state of a head.
-fn head(number: u32) -> Option<(Kind, State)> {
+fn head(number: u64) -> Option<(Kind, State)> {
     let kind = Kind::from_number(number / 4)?;
     let state = State::from_number(number % 4)?;
     Some((kind, state))
@@ -206,8 +212,8 @@ pub fn write_record(call: &Call, buffer: &mut [u8]) -> Result<usize, Refusal> {
 /// Appends the record of a call.
 pub(crate) fn push_record(call: &Call, record: &mut Vec<u8>) -> Result<(), Refusal> {
     let code = call.check()?;
-    write_number(call.process, record);
-    write_number(code as u32, record);
+    write_number(call.process.into(), record);
+    write_number(code as u64, record);
     if code.has_template() {
         push_tuple(&call.template, record);
     }
@@ -219,12 +225,11 @@ pub(crate) fn push_record(call: &Call, record: &mut Vec<u8>) -> Result<(), Refus
 
 /// Appends a checked tuple.
 fn push_tuple(tuple: &Tuple, record: &mut Vec<u8>) {
-    write_number(tuple.count as u32, record);
+    write_number(tuple.count as u64, record);
     for field in tuple.used() {
-        write_number(4 * field.kind + field.state, record);
+        write_number((4 * field.kind + field.state).into(), record);
         if field.state == State::Given as u32 {
-            // A checked value is at most 4,294,967,295.
-            write_number(field.value as u32, record);
+            write_number(field.value, record);
         }
     }
 }
@@ -235,7 +240,7 @@ mod tests {
     use Refusal::*;
 
     fn longest() -> Call {
-        let template = Tuple::of(&[Field::given(Kind::Count, u32::MAX.into()); 6]);
+        let template = Tuple::of(&[Field::given(Kind::Count, u64::MAX); 6]);
         Call::cas(u32::MAX, template, template)
     }
 
@@ -277,7 +282,7 @@ mod tests {
         assert_eq!(write_record(&longest(), &mut buffer), Err(Buffer));
         assert_eq!(buffer, [0xA5; LONGEST_RECORD - 1]);
         let mut bad = longest();
-        bad.entry.fields[5].value += 1;
+        bad.entry.fields[5] = Field::given(Kind::Word, 256);
         assert_eq!(write_record(&bad, &mut []), Err(Value), "3 to 5 come before 10");
     }
 
@@ -287,13 +292,15 @@ mod tests {
         for number in 0..2000 {
             assert_eq!(head(number).is_some(), known.contains(&number), "{number}");
         }
-        assert_eq!(head(u32::MAX), None);
+        for number in [4_294_967_300, 4_294_967_306, (1 << 34) + 4, (1 << 63) + 18, u64::MAX] {
+            assert_eq!(head(number), None, "{number}");
+        }
         assert_eq!(head(10), Some((Kind::Count, State::Open)));
     }
 
     #[test]
     fn faults_where_they_stand() {
-        let rows: [(&[u8], Refusal); 21] = [
+        let rows: [(&[u8], Refusal); 22] = [
             (&[], Ended),
             (&[0x01], Ended),
             (&[0x80, 0x00], Value),
@@ -314,7 +321,8 @@ mod tests {
             (&[0x01, 0x01, 0x01, 0x04, 0x80, 0x02], Value),
             (&[0x01, 0x01, 0x01, 0x0C, 0xC2, 0x9A, 0x0C], Value),
             (&[0x01, 0x01, 0x01, 0x10, 0x80, 0x80, 0x80, 0x80, 0x08], Value),
-            (&[0x01, 0x01, 0x01, 0x08, 0xFF, 0xFF, 0xFF, 0xFF, 0x10], Value),
+            (&[0x01, 0x01, 0x01, 0x08, 0xFF, 0xFF, 0xFF, 0xFF, 0x90], Ended),
+            (&[0x01, 0x01, 0x01, 0x08, 0xFF, 0xFF, 0xFF, 0xFF, 0x90, 0x00], Value),
         ];
         for (bytes, refusal) in rows {
             assert_eq!(read_record(bytes), Err(refusal), "{bytes:02X?}");
@@ -322,7 +330,62 @@ mod tests {
         assert!(read_record(&[0x01, 0x01, 0x01, 0x0C, 0xC1, 0x9A, 0x0C]).is_ok());
         assert!(read_record(&[0x01, 0x01, 0x01, 0x10, 0x80, 0x80, 0x02]).is_ok());
         assert!(read_record(&[0x01, 0x01, 0x01, 0x10, 0xFF, 0xFF, 0xFF, 0xFF, 0x07]).is_ok());
+        assert!(read_record(&[0x01, 0x01, 0x01, 0x08, 0xFF, 0xFF, 0xFF, 0xFF, 0x10]).is_ok());
         assert!(read_record(&[0x01, 0x02, 0x06, 5, 6, 9, 10, 13, 14]).is_ok());
+    }
+
+    /// `front`, this number and `behind`.
+    fn around(front: &[u8], value: u64, behind: &[u8]) -> Vec<u8> {
+        let mut bytes = front.to_vec();
+        write_number(value, &mut bytes);
+        bytes.extend(behind);
+        bytes
+    }
+
+    #[test]
+    fn long_numbers_are_refused_by_their_own_rule() {
+        // The bytes before and behind a number that would be right, and what it is refused where it stands.
+        let rows: [(&[u8], u64, &[u8], Refusal); 8] = [
+            (&[], 1, &[0x01, 0x01, 0x04, 0x00], Value),
+            (&[0x01], 1, &[0x01, 0x04, 0x00], Unknown),
+            (&[0x01, 0x01], 1, &[0x04, 0x00], Shape),
+            (&[0x01, 0x04, 0x01, 0x05], 1, &[0x04, 0x00], Shape),
+            (&[0x01, 0x01, 0x01], 4, &[0x00], Unknown),
+            (&[0x01, 0x01, 0x01, 0x04], 7, &[], Value),
+            (&[0x01, 0x01, 0x01, 0x0C], 0x50, &[], Value),
+            (&[0x01, 0x01, 0x01, 0x10], 5, &[], Value),
+        ];
+        for (front, right, behind, refusal) in rows {
+            assert!(read_record(&around(front, right, behind)).is_ok());
+            for high in [1 << 32, 1 << 40, 1 << 63, u64::MAX << 32] {
+                // Whatever stands behind it, or nothing.
+                for behind in [behind, &[], &[0x80], &[0x80, 0x00], &[0x09]] {
+                    let bytes = around(front, high + right, behind);
+                    assert_eq!(read_record(&bytes), Err(refusal), "{bytes:02X?}");
+                }
+            }
+        }
+        for value in [1 << 32, 1 << 63, u64::MAX] {
+            let (call, _) = read_record(&around(&[0x01, 0x01, 0x01, 0x08], value, &[])).unwrap();
+            assert_eq!(call.entry, Tuple::of(&[Field::given(Kind::Count, value)]));
+        }
+    }
+
+    #[test]
+    fn the_bare_seat_number() {
+        let behind = [0x01, 0x01, 0x04, 0x07];
+        for seat in [0, 127, 128, 4_294_967_295] {
+            let (call, _) = read_record(&around(&[], seat, &behind)).unwrap();
+            assert_eq!(u64::from(call.process), seat);
+            assert_eq!(read_record(&around(&[], seat, &[])), Err(Ended));
+            assert_eq!(read_record(&around(&[], seat, &[0x09])), Err(Unknown));
+        }
+        // In a count field the same number is one like others.
+        let seat = 4_294_967_296;
+        assert!(read_record(&around(&[0x01, 0x01, 0x01, 0x08], seat, &[])).is_ok());
+        assert_eq!(read_record(&around(&[], seat, &behind)), Err(Value));
+        assert_eq!(read_record(&around(&[], seat, &[])), Err(Value), "where it is read");
+        assert_eq!(read_record(&around(&[], seat, &[0x09])), Err(Value), "before the code");
     }
 
     #[test]

@@ -1,4 +1,5 @@
-//! A whole script: bytes in, text out (01, "A whole script", and 02, 2.1).
+//! A whole script: bytes in, text out (01, "A whole script", and 02, 2.1 and
+//! 2.10).
 
 use std::fmt::Write;
 
@@ -10,6 +11,9 @@ use crate::text;
 
 /// The longest script.
 pub const LONGEST_SCRIPT: usize = 65_536;
+
+/// A buffer of this length has room for the text of every script.
+pub const ROOM_FOR_TEXT: usize = 16 * LONGEST_SCRIPT + 64;
 
 /// The text that the program board prints for this script.
 pub fn run(script: &[u8]) -> String {
@@ -65,10 +69,10 @@ fn lines(script: &[u8], obey: Obey) -> Result<String, Refusal> {
 
 /// Reads n, t and the policy number, and under policy 3 k, sound or not.
 fn set_up(reader: &mut Reader) -> Result<Config, Refusal> {
-    let n = reader.number()?.into();
-    let t = reader.number()?.into();
-    let policy = reader.number()?.into();
-    let k = if policy == STRONG { reader.number()?.into() } else { 0 };
+    let n = reader.number()?;
+    let t = reader.number()?;
+    let policy = reader.number()?;
+    let k = if policy == STRONG { reader.number()? } else { 0 };
     Ok(Config { n, t, policy, k })
 }
 
@@ -154,7 +158,8 @@ mod tests {
             ("04 01 03 82", "refused 2\n"),
             ("04 01 03 80 00", "refused 3\n"),
             ("00 01 03 80 00", "refused 3\n"),
-            ("04 01 03 FF FF FF FF 10", "refused 3\n"),
+            ("04 01 03 FF FF FF FF 10", "refused 1\n"),
+            ("04 01 03 FF FF FF FF FF FF FF FF FF 02", "refused 3\n"),
             ("04 00 03 FF FF FF FF 0F", "refused 1\n"),
             ("04 00 03 00", "refused 1\n"),
             ("04 00 03 01", "refused 1\n"),
@@ -174,6 +179,44 @@ mod tests {
             ("04 01 05 02", "board 4 1 5\n1 refused 2\ntuples 0\n"),
             ("04 01 05 80 00", "board 4 1 5\n1 refused 3\ntuples 0\n"),
             ("04 01 06 80 00", "refused 1\n"),
+        ];
+        for (script, text) in rows {
+            assert_eq!(run(&hex(script)), text, "{script}");
+        }
+    }
+
+    #[test]
+    fn long_numbers_of_a_set_up() {
+        let rows = [
+            // n, t, the policy, k: alone, and before a cut or an unshortest number.
+            ("84 80 80 80 10 01 02", "refused 1\n"),
+            ("84 80 80 80 10", "refused 2\n"),
+            ("84 80 80 80 10 81", "refused 2\n"),
+            ("84 80 80 80 10 81 00 02", "refused 3\n"),
+            ("84 80 80 80 10 01", "refused 2\n"),
+            ("84 80 80 80 10 01 82 00", "refused 3\n"),
+            ("84 80 80 80 10 01 03", "refused 2\n"),
+            ("84 80 80 80 10 01 03 82 00", "refused 3\n"),
+            ("04 81 80 80 80 10 02", "refused 1\n"),
+            ("04 FF FF FF FF 10 02", "refused 1\n"),
+            ("04 81 80 80 80 10", "refused 2\n"),
+            ("04 81 80 80 80 10 82 00", "refused 3\n"),
+            ("04 01 82 80 80 80 10", "refused 1\n"),
+            // No k follows a policy that is none, though its low bits are those of 3.
+            ("04 01 83 80 80 80 10", "refused 1\n"),
+            ("04 01 83 80 80 80 10 80", "refused 1\n"),
+            ("04 01 83 80 80 80 10 80 00", "refused 1\n"),
+            ("04 01 03 82 80 80 80 10", "refused 1\n"),
+            ("04 01 03 82 80 80 80 90", "refused 2\n"),
+            ("04 01 03 82 80 80 80 90 00", "refused 3\n"),
+            // The largest number, one more, and ten bytes that go on.
+            ("FF FF FF FF FF FF FF FF FF 01 01 02", "refused 1\n"),
+            ("FF FF FF FF FF FF FF FF FF 02 01 02", "refused 3\n"),
+            ("80 80 80 80 80 80 80 80 80", "refused 2\n"),
+            ("80 80 80 80 80 80 80 80 80 80", "refused 3\n"),
+            // 3t + 1 is 2^64, and 9t + 1 is 2^64 + 3.
+            ("04 D5 AA D5 AA D5 AA D5 AA 55 02", "refused 1\n"),
+            ("0A F2 B8 9C 8E C7 E3 F1 B8 1C 03 08", "refused 1\n"),
         ];
         for (script, text) in rows {
             assert_eq!(run(&hex(script)), text, "{script}");
@@ -251,6 +294,13 @@ mod tests {
             ("05 01 01 04 01 01 01 01 04 FF 01", "1 refused 6\n2 done\ntuples 1\n"),
             ("01 01 01 10 80 80 80 80 08 01 01 01 04 01", "1 refused 3\ntuples 0\n"),
             ("01 01 01 10 80 80 02 01 01 01 10 FF FF FF FF 07", "1 done\n2 done\ntuples 2\n"),
+            ("81 80 80 80 10 01 01 04 01", "1 refused 3\ntuples 0\n"),
+            ("01 81 80 80 80 10 01 04 01", "1 refused 4\ntuples 0\n"),
+            ("01 01 81 80 80 80 10 04 01", "1 refused 5\ntuples 0\n"),
+            ("01 01 01 84 80 80 80 10 01", "1 refused 4\ntuples 0\n"),
+            ("01 01 01 04 81 80 80 80 10", "1 refused 3\ntuples 0\n"),
+            ("01 01 01 08 81 80 80 80 10 01 01 01 04 01", "1 done\n2 done\ntuples 2\n"),
+            ("FF FF FF FF 0F 01 01 04 01 01 01 01 04 01", "1 refused 6\n2 done\ntuples 1\n"),
         ];
         for (records, text) in rows {
             let script = hex(&format!("04 01 00 {records}"));
@@ -271,11 +321,13 @@ mod tests {
 
     #[test]
     fn how_fields_are_shown() {
-        let out = "01 01 06 04 FF 01 08 FF FF FF FF 0F 0C 00 0C 01 0C C0 9A 0C 10 FF FF FF FF 07";
+        let out =
+            "01 01 06 04 FF 01 08 FF FF FF FF FF FF FF FF FF 01 0C 00 0C 01 0C C0 9A 0C 10 FF FF FF FF 07";
         let inp = "02 03 06 05 09 0D 0E 0C C0 9A 0C 12";
         let cas = "02 04 01 05 01 0C C1 9A 0C";
         let script = hex(&format!("04 01 00 {out} {inp} {inp} {cas} 01 02 01 0E"));
-        let text = "board 4 1 0\n1 done\n2 found w255 c4294967295 o_ o0 o-100000 s2147483647\n3 none\n\
+        let text =
+            "board 4 1 0\n1 done\n2 found w255 c18446744073709551615 o_ o0 o-100000 s2147483647\n3 none\n\
             4 inserted\n5 found o100000\ntuples 1\n";
         assert_eq!(run(&script), text);
     }
@@ -293,5 +345,23 @@ mod tests {
         script.push(1);
         assert_eq!(run(&script), "refused 9\n");
         assert_eq!(run(&[0xFF; LONGEST_SCRIPT + 1]), "refused 9\n");
+    }
+
+    #[test]
+    fn a_text_of_long_counts() {
+        // An out of six counts of twenty digits, read again by records of nine bytes as often as there is room for.
+        let mut script = hex("1F 0A 00 01 01 06");
+        for _ in 0..6 {
+            script.extend(hex("08 FF FF FF FF FF FF FF FF FF 01"));
+        }
+        script.extend(hex("01 02 06 09 09 09 09 09 09").repeat(7_273));
+        script.extend(hex("00 02 01 05 01 09 00"));
+        assert_eq!(script.len(), LONGEST_SCRIPT);
+        let text = run(&script);
+        assert_eq!(text.len(), 1_038_995);
+        assert!(text.len() <= ROOM_FOR_TEXT);
+        let counts = " c18446744073709551615".repeat(6);
+        let last = format!("\n7274 found{counts}\n7275 refused 6\n7276 refused 4\ntuples 1\n");
+        assert!(text.ends_with(&last), "{}", &text[text.len() - 200..]);
     }
 }

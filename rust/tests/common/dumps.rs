@@ -284,7 +284,7 @@ pub fn near_miss(dice: &mut Dice, board: &Board) -> Board {
 fn change_value(dice: &mut Dice, tuple: &mut Tuple) {
     let place = dice.below(tuple.count as u64) as usize;
     let field = &mut tuple.fields[place];
-    let last = Kind::from_number(field.kind).expect("a field in use").last();
+    let last = Kind::from_number(field.kind.into()).expect("a field in use").last();
     let value = match dice.below(8) {
         0..=2 => field.value.saturating_sub(1 + dice.below(2)),
         3 | 4 => field.value + 1 + dice.below(2),

@@ -266,7 +266,7 @@ pub fn soil(dice: &mut Dice, place: &mut Tuple, part: u64) {
     }
     // A field in use has a kind, an unused one is blank.
     let field = &mut place.fields[(part - 1) as usize / 3];
-    match (part % 3, Kind::from_number(field.kind)) {
+    match (part % 3, Kind::from_number(field.kind.into())) {
         (0, Some(kind)) => field.kind = dice.pick(&[0, 5, 65_536 + kind as u32, u32::MAX]),
         (0, None) => field.kind = dice.pick(&KINDS[1..]),
         (1, _) => field.state = dice.pick(&STATES[1..]),

@@ -14,8 +14,8 @@
 #include <stddef.h>
 #include <stdint.h>
 
-/* 209 is document 01 with the requests 2.1 to 2.9 of document 02. It grows with each request that lands: with 2.10 it is 210. */
-#define BOARD_VERSION 209
+/* 210 is document 01 with the requests 2.1 to 2.10 of document 02. It grows with each request that lands: with 2.11 it is 211. */
+#define BOARD_VERSION 210
 
 #ifdef __cplusplus
 #define BOARD_ASSERT static_assert
@@ -39,8 +39,8 @@ enum {
     BOARD_LARGEST_OFFSET = 100000, /* offsets are hundredths of a needle space, from minus this to this */
     BOARD_SCRIPT_BYTES = 65536,    /* the most bytes of a script */
     BOARD_TEXT_BYTES = 1048640,    /* a buffer of this size has room for every script's text */
-    BOARD_RECORD_BYTES = 80,       /* and one of this size for every record */
-    BOARD_DUMP_BYTES = 9987        /* and one of this size for every board written back as a script */
+    BOARD_RECORD_BYTES = 140,      /* and one of this size for every record */
+    BOARD_DUMP_BYTES = 17667       /* and one of this size for every board written back as a script */
 };
 
 /* ---- numbers, by what they are: each name has the sort behind BOARD_ */
@@ -61,7 +61,7 @@ enum { BOARD_CALL_OUT = 1, BOARD_CALL_RDP = 2, BOARD_CALL_INP = 3, BOARD_CALL_CA
 /* a field's kind, with the values that it takes */
 enum {
     BOARD_KIND_WORD = 1,   /* 0 to 255 */
-    BOARD_KIND_COUNT = 2,  /* 0 to 4,294,967,295 */
+    BOARD_KIND_COUNT = 2,  /* 0 to 18,446,744,073,709,551,615: every value */
     BOARD_KIND_OFFSET = 3, /* the code of an offset, or the mark */
     BOARD_KIND_SEATS = 4   /* a set of seats: seat q is the bit worth 2 to the power q - 1 */
 };

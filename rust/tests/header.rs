@@ -11,7 +11,7 @@ use reference::fields::{ANNOUNCED, DECISION, LISTED, MOST_FIELDS, MOST_SEATS, PR
 use reference::list::LAST_POSITION;
 use reference::policy::LAST_ROUND;
 use reference::records::LONGEST_RECORD;
-use reference::script::LONGEST_SCRIPT;
+use reference::script::{LONGEST_SCRIPT, ROOM_FOR_TEXT};
 use reference::table::PLACES;
 use reference::{sys, Code, Kind, Offset, Refusal, State};
 
@@ -98,7 +98,7 @@ fn the_header_has_these_numbers() {
         ("PLACES", PLACES as u64),
         ("LARGEST_OFFSET", Offset::LIMIT as u64),
         ("SCRIPT_BYTES", LONGEST_SCRIPT as u64),
-        ("TEXT_BYTES", 16 * LONGEST_SCRIPT as u64 + 64),
+        ("TEXT_BYTES", ROOM_FOR_TEXT as u64),
         ("RECORD_BYTES", LONGEST_RECORD as u64),
         ("DUMP_BYTES", LONGEST_DUMP as u64),
         ("POLICY_BARE", BARE),

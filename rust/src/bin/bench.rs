@@ -57,20 +57,21 @@ fn line(name: &str, (ours, plain): (Duration, Duration)) {
     println!("{name:<80} {:>11.1} {:>11.1} {ratio:>7.2}", micros(ours), micros(plain));
 }
 
-/// Records of all four calls, one behind the other.
-fn records() -> Vec<u8> {
+/// Records of all four calls, one behind the other, their counts from this one on.
+fn records(least: u64) -> Vec<u8> {
     let mut bytes = Vec::new();
     for k in 0..1000u64 {
-        let (round, seat) = (k % (LAST_ROUND + 1), 1 + k % MOST_SEATS);
+        let process = (1 + k % MOST_SEATS) as u32;
+        let (round, seat) = (least + k % (LAST_ROUND + 1), least + u64::from(process));
         let offset = 1 + k * 7919 % Offset::LAST;
         let call = match k % 4 {
-            0 => Call::out(seat as u32, Tuple::proposal(round, seat, offset)),
-            1 => Call::rdp(seat as u32, Tuple::proposal_template(round, seat)),
-            2 => Call::inp(
-                seat as u32,
-                Tuple::of(&[Field::given(Kind::Count, k * 65_537), Field::any(Kind::Word)]),
-            ),
-            _ => Call::cas(seat as u32, Tuple::decision_template(round), Tuple::decision(round, offset, k)),
+            0 => Call::out(process, Tuple::proposal(round, seat, offset)),
+            1 => Call::rdp(process, Tuple::proposal_template(round, seat)),
+            2 => {
+                let count = Field::given(Kind::Count, least + k * 65_537);
+                Call::inp(process, Tuple::of(&[count, Field::any(Kind::Word)]))
+            }
+            _ => Call::cas(process, Tuple::decision_template(round), Tuple::decision(round, offset, k)),
         };
         bytes.extend(record_of(&call).expect("a sound call"));
     }
@@ -296,8 +297,12 @@ fn run_program(program: &str, input: &str) {
 fn main() {
     let arguments: Vec<String> = std::env::args().skip(1).collect();
     println!("{:<80} {:>11} {:>11} {:>7}", "median time in µs", "proved", "plain Rust", "ratio");
-    let bytes = records();
-    line("a  reading 1,000 records", medians(301, || read_ours(&bytes), || read_plain(&bytes)));
+    for (least, name) in
+        [(0, "a  reading 1,000 records"), (1 << 63, "a  reading 1,000 records whose counts have ten bytes")]
+    {
+        let bytes = records(least);
+        line(name, medians(301, || read_ours(&bytes), || read_plain(&bytes)));
+    }
 
     let calls = rounds_plain();
     assert_eq!(rounds_ours(), calls);

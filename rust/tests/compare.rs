@@ -7,6 +7,7 @@ use common::announced::{self, odd_announced};
 use common::denials::{Cause, Denials};
 use common::dumps::{near_miss, Dumps};
 use common::lists::{self, near_call, odd_listed};
+use common::long::{lengthen, lengthen_call, lengthened, lengthened_calls, Long, Part};
 use common::reached::{weak_decision, Flaw};
 use common::tables::{self, board_with, stranger, table_of, with_fault, Calm, Tables, Unfit};
 use common::wide::Wide;
@@ -19,7 +20,7 @@ use reference::flat;
 use reference::list::LAST_POSITION;
 use reference::numbers::write_number;
 use reference::policy::LAST_ROUND;
-use reference::records::record_of;
+use reference::records::{record_of, LONGEST_RECORD};
 use reference::table::PLACES;
 use reference::tabled;
 use reference::{
@@ -61,7 +62,7 @@ fn records_read() {
                 _ => {}
             }
         }
-        sound += usize::from(compare_read(&bytes, 0));
+        sound += usize::from(compare_read(&bytes, 0) == 0);
         // The same record behind other bytes, and a place behind the end.
         let ahead = dice.below(4) as usize;
         let mut moved = vec![0x83; ahead];
@@ -70,7 +71,7 @@ fn records_read() {
         compare_read(&moved, moved.len() + dice.pick(&[0, 1, usize::MAX - moved.len()]));
         inputs += 3;
     }
-    // Every cut of the longest record and of each code's.
+    // Every cut of a record of each code.
     for _ in 0..500 {
         let bytes = record(&good_call(&mut dice));
         for cut in 0..=bytes.len() {
@@ -82,7 +83,7 @@ fn records_read() {
     for (kind, value) in Kind::ALL.into_iter().flat_map(|kind| VALUES.map(|value| (kind, value))) {
         for code in [Code::Out, Code::Rdp] {
             let mut bytes = vec![1, code as u8, 1, 4 * kind as u8];
-            write_number(value.min(u32::MAX.into()) as u32, &mut bytes);
+            write_number(value, &mut bytes);
             compare_read(&bytes, 0);
             inputs += 1;
         }
@@ -103,9 +104,10 @@ fn records_written() {
         let room = match record_of(&call) {
             Ok(record) => {
                 sound += 1;
-                (record.len() + dice.pick(&[0, 0, 1, 7])).saturating_sub(dice.pick(&[0, 0, 1, 2, 80]))
+                let short = dice.pick(&[0, 0, 1, 2, LONGEST_RECORD]);
+                (record.len() + dice.pick(&[0, 0, 1, 7])).saturating_sub(short)
             }
-            Err(_) => dice.below(90) as usize,
+            Err(_) => dice.below(LONGEST_RECORD as u64 + 10) as usize,
         };
         let buffer: Vec<u8> = (0..room).map(|_| dice.next() as u8).collect();
         compare_write(&call, &buffer);
@@ -212,11 +214,63 @@ fn calls_with_wrong_fields() {
     assert!(answers[12] > 5 && answers[13] > 50, "{answers:?}");
 }
 
-/// A tuple near the policies' shapes, as no run need make it.
+/// Boards of every policy and base calls, with high bits in each count of a tuple, of the call, or of both: whoever cuts a round, a seat, a
+/// position or a serial to 32 bits takes it for another that is there.
+#[test]
+fn counts_that_differ_in_high_bits() {
+    let calls: Vec<Call> =
+        base_calls().iter().flat_map(|call| [vec![*call], lengthened_calls(call)].concat()).collect();
+    let (mut inputs, mut denials, mut long) = (0, Denials::default(), Long::default());
+    let mut dumps = Dumps::default();
+    for base in base_boards() {
+        let mut boards = vec![base.clone()];
+        for (place, tuple) in base.held().iter().enumerate() {
+            for other in lengthened(tuple) {
+                let mut tuples = base.held().to_vec();
+                tuples[place] = other;
+                boards.push(board_with(base.config, &tuples));
+            }
+        }
+        for before in boards {
+            for call in &calls {
+                let answer = compare_call(&mut before.clone(), call);
+                denials.note(&before, call, &answer);
+                long.note(&before, call, &answer);
+                inputs += 1;
+            }
+            _ = dumps.note(&before);
+        }
+    }
+    count("calls with counts that differ in high bits", inputs, String::new());
+    long.print();
+    count("such boards written back", dumps.boards(), String::new());
+    dumps.print();
+    long.assert_came(BARE, &[(Part::Round, [500, 0, 500]), (Part::Seat, [500, 0, 500])]);
+    long.assert_came(BARE, &[(Part::Position, [100, 0, 0]), (Part::Serial, [50, 0, 0])]);
+    long.assert_came(WEAK, &[(Part::Round, [0, 100, 100])]);
+    for policy in [DEFAULT, STRONG] {
+        long.assert_came(policy, &[Part::Round, Part::Seat].map(|part| (part, [25, 500, 500])));
+    }
+    for policy in [LIST, WAIT_FREE] {
+        let position = (Part::Position, [50, 100, 500]);
+        long.assert_came(policy, &[position, (Part::Seat, [5, 100, 500]), (Part::Serial, [100, 100, 500])]);
+    }
+}
+
+/// A tuple near the policies' shapes, as no run need make it, now and then with a count above 32 bits.
 fn odd_tuple(dice: &mut Dice, config: &Config) -> Tuple {
+    let mut tuple = near_tuple(dice, config);
+    if dice.one_in(20) {
+        lengthen(dice, &mut tuple);
+    }
+    tuple
+}
+
+fn near_tuple(dice: &mut Dice, config: &Config) -> Tuple {
+    let most = MOST_SEATS;
     let (round, seat) = (
         dice.pick(&[0, 0, 0, 1, 7, 8]),
-        dice.pick(&[0, 1, 1, 2, 3, 4, 5, MOST_SEATS / 2 + 1, MOST_SEATS, MOST_SEATS + 1, 4_294_967_295]),
+        dice.pick(&[0, 1, 1, 2, 3, 4, 5, most / 2 + 1, most, most + 1, Kind::Count.last()]),
     );
     let offset = near_offset(dice, config);
     if [LIST, WAIT_FREE].contains(&config.policy) || dice.one_in(20) {
@@ -265,8 +319,16 @@ fn weak_call(dice: &mut Dice, board: &Board, seat: u32) -> Call {
     Call::cas(seat, template, entry)
 }
 
-/// A call that aims at such tuples.
+/// A call that aims at such tuples, now and then with a count above 32 bits.
 fn aimed_call(dice: &mut Dice, board: &Board) -> Call {
+    let mut call = short_call(dice, board);
+    if dice.one_in(16) {
+        lengthen_call(dice, &mut call);
+    }
+    call
+}
+
+fn short_call(dice: &mut Dice, board: &Board) -> Call {
     let n = board.config.n.clamp(1, MOST_SEATS);
     let seat = if dice.one_in(10) { dice.pick(&SEATS) } else { 1 + dice.below(n) as u32 };
     match board.config.policy {
@@ -370,6 +432,7 @@ fn boards_that_no_run_makes() {
     let mut dice = Dice::new(4);
     let (mut inputs, mut outcomes) = (0, [0usize; ANSWERS]);
     let (mut denials, mut wide, mut tables) = (Denials::default(), Wide::default(), Tables::default());
+    let mut long = Long::default();
     // What is inserted or held under policies 2 to 5, and the mark, which is so under policy 2.
     let (mut entries, mut marks) = ([0usize; 4], 0);
     for _ in 0..42_000 {
@@ -387,6 +450,7 @@ fn boards_that_no_run_makes() {
             }
             denials.note(&before, &call, &answer);
             wide.note(&before, &call, &answer);
+            long.note(&before, &call, &answer);
             outcomes[refusal_of(&answer)] += 1;
             if matches!(answer.kind, AnswerKind::Inserted | AnswerKind::Held) && policy >= DEFAULT {
                 entries[(policy - DEFAULT) as usize] += 1;
@@ -412,6 +476,16 @@ fn boards_that_no_run_makes() {
     }
     denials.announced.assert_each(&lists::Cause::UNDER_5, 25);
     assert!(outcomes[12] > 200 && outcomes[13] > 200, "{outcomes:?}");
+    long.print();
+    long.assert_came(BARE, &[Part::Round, Part::Seat, Part::Other].map(|part| (part, [50, 0, 500])));
+    long.assert_came(WEAK, &[(Part::Round, [0, 100, 500])]);
+    for policy in [DEFAULT, STRONG] {
+        long.assert_came(policy, &[Part::Round, Part::Seat].map(|part| (part, [5, 100, 500])));
+    }
+    for policy in [LIST, WAIT_FREE] {
+        long.assert_came(policy, &[Part::Position, Part::Seat].map(|part| (part, [3, 50, 500])));
+        long.assert_came(policy, &[(Part::Serial, [100, 100, 500])]);
+    }
 }
 
 /// The benchmark's plain side, which answers from the table, answers as the one that searches.
@@ -870,13 +944,13 @@ fn the_worked_board_and_the_longest_script() {
         let expected = if room < script.len() { Err(Refusal::Buffer) } else { Ok(records.clone()) };
         assert_eq!(compare_dump(&worked, &vec![0xA5; room]), expected);
     }
-    for value in [(1 << 28) - 1, 1 << 28, Kind::Count.last()] {
+    for value in [(1 << 63) - 1, 1 << 63, Kind::Count.last()] {
         let counts = Tuple::of(&[Field::given(Kind::Count, value); MOST_FIELDS]);
         let board = board_with(four_seats(BARE), &[counts; MOST_TUPLES]);
         let length = dumps.note(&board).expect("every board is reached").len();
-        assert_eq!(length == LONGEST_DUMP, value >= 1 << 28, "{length}");
+        assert_eq!(length == LONGEST_DUMP, value >= 1 << 63, "{length}");
     }
-    assert_eq!(LONGEST_DUMP, 9_987);
+    assert_eq!(LONGEST_DUMP, 17_667);
     count("boards written back", dumps.boards(), "the worked script's and the longest".into());
 }
 
@@ -1176,7 +1250,7 @@ fn numbers_that_are_no_case() {
 fn set_ups_of_scripts() {
     let mut dice = Dice::new(7);
     let mut inputs = 0;
-    let numbers: [&[u8]; 23] = [
+    let numbers: [&[u8]; 27] = [
         &[0],
         &[1],
         &[2],
@@ -1199,6 +1273,10 @@ fn set_ups_of_scripts() {
         &[0xFF, 0xFF, 0xFF, 0xFF, 0x10],
         &[0xFF, 0xFF, 0xFF, 0xFF, 0xFF],
         &[0x80, 0x80, 0x80, 0x80],
+        &[0x83, 0x80, 0x80, 0x80, 0x10],
+        &[0xFF, 0xFF, 0xFF, 0xFF, 0xFF, 0xFF, 0xFF, 0xFF, 0xFF, 0x01],
+        &[0xFF, 0xFF, 0xFF, 0xFF, 0xFF, 0xFF, 0xFF, 0xFF, 0xFF, 0x02],
+        &[0xFF; 10],
         &[],
     ];
     for n in numbers {
@@ -1239,7 +1317,7 @@ fn scripts_of_the_longest_length() -> Vec<Vec<u8>> {
         &[0x84, 0x00, 1, 0],
         &[4, 1, 0x80, 0x00],
         &[4, 0xFF, 0xFF, 0xFF, 0xFF, 0x10, 0],
-        &[0xFF, 0xFF, 0xFF, 0xFF, 0xFF],
+        &[0xFF; 10],
     ];
     let mut scripts = Vec::new();
     for set_up in set_ups {

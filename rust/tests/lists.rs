@@ -8,6 +8,7 @@ use common::announced::{self, odd_tuples};
 use common::denials::Denials;
 use common::dumps::{near_miss, Dumps};
 use common::lists::{near_call, odd_list, Cause};
+use common::long::{Long, Part};
 use common::reached::Flaw;
 use common::tables::{board_with, Calm, Unfit};
 use common::wide::Wide;
@@ -39,10 +40,10 @@ fn calls_handed_in(
     board: fn(&mut Dice) -> Board,
     near_call: fn(&mut Dice, &Board, u32) -> Call,
     name: &str,
-) -> (Denials, Wide) {
+) -> (Denials, Wide, Long) {
     let mut dice = Dice::new(seed);
     let (mut inputs, mut outcomes) = (0, [0usize; ANSWERS]);
-    let (mut denials, mut wide) = (Denials::default(), Wide::default());
+    let (mut denials, mut wide, mut long) = (Denials::default(), Wide::default(), Long::default());
     for _ in 0..boards {
         let before = board(&mut dice);
         for _ in 0..5 {
@@ -52,6 +53,7 @@ fn calls_handed_in(
             let answer = compare_call(&mut before.clone(), &call);
             denials.note(&before, &call, &answer);
             wide.note(&before, &call, &answer);
+            long.note(&before, &call, &answer);
             outcomes[refusal_of(&answer)] += 1;
             inputs += 1;
         }
@@ -59,7 +61,8 @@ fn calls_handed_in(
     println!("compared {inputs:>7} calls on {name} handed in: answered, refused 1 to 13: {outcomes:?}");
     denials.print();
     wide.print();
-    (denials, wide)
+    long.print();
+    (denials, wide, long)
 }
 
 /// Boards handed in, and boards beside them, written back.
@@ -75,11 +78,16 @@ fn dumps_handed_in(seed: u64, boards: usize, board: fn(&mut Dice) -> Board, name
     dumps
 }
 
+/// Counts above 32 bits on lists: in calls obeyed, in calls denied and on boards.
+const LONG_PARTS: [(Part, [usize; 3]); 3] =
+    [(Part::Position, [10, 100, 500]), (Part::Seat, [3, 100, 500]), (Part::Serial, [500, 500, 500])];
+
 /// Calls on lists handed in: with gaps, positions twice, marks, seats above n and other tuples, and on full boards.
 #[test]
 fn lists_handed_in() {
-    let (Denials { lists, .. }, wide) = calls_handed_in(17, 5_000, board_of_a_list, near_call, "lists");
+    let (Denials { lists, .. }, wide, long) = calls_handed_in(17, 5_000, board_of_a_list, near_call, "lists");
     wide.assert_boards(&[LIST], [100, 100, 100]);
+    long.assert_came(LIST, &LONG_PARTS);
     lists.assert_each(&Cause::UNDER_4, 50);
     let came = [lists.inserted, lists.held, lists.found, lists.none, lists.full];
     assert!(came.iter().all(|often| *often > 200), "{came:?}");
@@ -106,7 +114,10 @@ fn lists_with_a_gap() {
 #[test]
 fn lists_of_112_positions() {
     let mut dumps = Dumps::default();
-    for (n, serial) in [(1, 0), (4, 100), (MOST_SEATS, 1 << 28)] {
+    // Serials of five bytes and of ten make all records of one length.
+    let rows =
+        [(1, 0, None), (4, 100, None), (MOST_SEATS, 1 << 28, Some(27)), (MOST_SEATS, 1 << 63, Some(32))];
+    for (n, serial, bytes) in rows {
         let config = Config { n, t: (n - 1) / 3, policy: LIST, k: 0 };
         let mut board = Board::fresh(config).unwrap();
         let cas = |position| {
@@ -119,8 +130,8 @@ fn lists_of_112_positions() {
             assert_eq!(compare_call(&mut board, &cas(position)), Answer::INSERTED);
             assert_eq!(compare_call(&mut board, &cas(position)), Answer::from(Refusal::Denied));
             let script = dumps.note(&board).expect("a board that a run makes");
-            if serial == 1 << 28 {
-                assert_eq!(script.len() as u64, 3 + 27 * position);
+            if let Some(bytes) = bytes {
+                assert_eq!(script.len() as u64, 3 + bytes * position);
             }
         }
         for position in [0, 113, 114, 255] {
@@ -137,7 +148,7 @@ fn lists_of_112_positions() {
     }
     println!("compared {:>7} lists of up to {MOST_TUPLES} positions written back", dumps.boards());
     dumps.print();
-    dumps.assert_each(LIST, &[Flaw::Beyond], 3 * (MOST_TUPLES - 112));
+    dumps.assert_each(LIST, &[Flaw::Beyond], 4 * (MOST_TUPLES - 112));
 }
 
 #[test]
@@ -152,9 +163,10 @@ fn lists_handed_in_written_back() {
 /// Calls on announcements handed in: two of one seat, with the mark, of seats above n, of what is listed, with its shift or another.
 #[test]
 fn announcements_handed_in() {
-    let (Denials { announced: lists, .. }, wide) =
+    let (Denials { announced: lists, .. }, wide, long) =
         calls_handed_in(24, 14_000, board_of_announcements, announced::near_call, "announcements");
     wide.assert_boards(&[WAIT_FREE], [100, 100, 100]);
+    long.assert_came(WAIT_FREE, &LONG_PARTS);
     lists.assert_each(&Cause::UNDER_4, 50);
     lists.assert_each(&Cause::UNDER_5, 50);
     let came = [lists.inserted, lists.held, lists.found, lists.none, lists.full, lists.done];

@@ -10,6 +10,7 @@ use reference::{Answer, AnswerKind, Board, Call, Config, Field, Kind, Offset, Re
 
 use super::lists::{any_shift, hundredths, looks_listed, near_position, near_template, odd_list};
 use super::lists::{read_in, stands, Cause};
+use super::long::{any_count, lengthen, lengthen_call};
 use super::{good_field, good_tuple, lists, spoil, Dice, PARTS, SEATS};
 
 /// What is owed at a position: the oldest announcement of the seat that differs from it by a multiple of n, unless its seat and serial are
@@ -123,7 +124,8 @@ struct Helper {
 
 impl Helper {
     fn new(dice: &mut Dice, seat: u32) -> Helper {
-        let serial = dice.pick(&[0, 1, 100, 16_300, (1 << 28) - 9, Kind::Count.last() - 1_000]);
+        let last = Kind::Count.last() - 1_000;
+        let serial = dice.pick(&[0, 1, 100, 16_300, (1 << 28) - 9, (1 << 32) - 9, (1 << 63) - 9, last]);
         Helper {
             seat,
             announces: !dice.one_in(4),
@@ -448,7 +450,7 @@ fn own_template(dice: &mut Dice, seat: u64) -> Tuple {
     template
 }
 
-/// A call at this list and its announcements: right, with one thing wrong, or seldom with several.
+/// A call at this list and its announcements: right, with one thing wrong, or seldom with several; now and then with a count above 32 bits.
 pub fn near_call(dice: &mut Dice, board: &Board, process: u32) -> Call {
     let mut call = match dice.below(16) {
         0..=2 => Call::out(process, near_announcement(dice, board, process)),
@@ -461,6 +463,9 @@ pub fn near_call(dice: &mut Dice, board: &Board, process: u32) -> Call {
         let part = dice.below(PARTS);
         spoil(dice, &mut call, part);
     }
+    if dice.one_in(20) {
+        lengthen_call(dice, &mut call);
+    }
     call
 }
 
@@ -472,13 +477,12 @@ fn near_seat(dice: &mut Dice, board: &Board) -> u64 {
     dice.below(board.config.n.min(MOST_SEATS + 1) + 2)
 }
 
-/// What has the fields of an announcement on this board, each within its kind's range.
+/// What has the fields of an announcement on this board, its shift within its kind's range.
 fn announced(board: &Board) -> Vec<Tuple> {
     let has_fields = |held: &&Tuple| held.count == 4 && held.fields[0] == Field::given(Kind::Word, 4);
     let within = |held: &Tuple| {
         let (seat, serial, shift) = parts(held);
-        let last = Kind::Count.last();
-        Tuple::announcement(seat.min(last), serial.min(last), shift.min(Offset::LAST))
+        Tuple::announcement(seat, serial, shift.min(Offset::LAST))
     };
     board.held().iter().filter(has_fields).map(within).collect()
 }
@@ -490,7 +494,7 @@ fn near_announcement(dice: &mut Dice, board: &Board, process: u32) -> Tuple {
     let standing = announced(board);
     let list = board.held().iter().filter_map(looks_listed);
     let own_list: Vec<_> = list.filter(|(_, seat, _, _)| *seat == own).collect();
-    let serial = if dice.one_in(2) { dice.below(4) } else { dice.below(1 << 32) };
+    let serial = if dice.one_in(2) { dice.below(4) } else { any_count(dice) };
     let mut entry = Tuple::announcement(own, serial, any_shift(dice));
     match dice.below(20) {
         0 | 1 => entry.fields[1].value = near_seat(dice, board),
@@ -530,7 +534,7 @@ fn near_cas(dice: &mut Dice, board: &Board, process: u32) -> Call {
     if dice.one_in(5) {
         position = position.max(2) - 1;
     }
-    let serial = if dice.one_in(2) { dice.below(4) } else { dice.below(1 << 32) };
+    let serial = if dice.one_in(2) { dice.below(4) } else { any_count(dice) };
     let standing = announced(board);
     let chosen = match (owed(board, position), dice.below(8)) {
         (Some(owed), 0..=4) => owed,
@@ -542,7 +546,7 @@ fn near_cas(dice: &mut Dice, board: &Board, process: u32) -> Call {
         0 => shift = any_shift(dice),
         1 => serial = dice.below(4),
         2 => seat = near_seat(dice, board),
-        3 => position = dice.pick(&[0, position + 1]),
+        3 => position = dice.pick(&[0, position.saturating_add(1)]),
         4 => shift = dice.pick(&[Offset::MARK, shift]),
         _ => {}
     }
@@ -575,6 +579,7 @@ pub fn odd_announced(dice: &mut Dice, config: &Config, tuples: &[Tuple]) -> Tupl
         3 => tuple.fields[3] = Field::given(Kind::Count, shift),
         4 => tuple.fields[dice.below(4) as usize] = good_field(dice, true),
         5 => tuple = good_tuple(dice, true),
+        6 | 7 => lengthen(dice, &mut tuple),
         _ => {}
     }
     tuple

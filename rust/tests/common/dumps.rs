@@ -185,7 +185,7 @@ impl Ran {
         let (policy, at) = (self.plain.config.policy, self.script.len());
         let (call, taken) = read_record(&script[at..]).expect("a record");
         assert_eq!((call.process.into(), call.code), writer(policy, tuple), "{call:?}");
-        assert!(policy != LIST || taken <= 27, "{call:?}");
+        assert!(policy != LIST || taken <= 32, "{call:?}");
         let answer = self.plain.call(&call);
         assert!([Ok(Answer::DONE), Ok(Answer::INSERTED)].contains(&answer), "{answer:?} to {call:?}");
 
@@ -287,8 +287,8 @@ fn change_value(dice: &mut Dice, tuple: &mut Tuple) {
     let last = Kind::from_number(field.kind.into()).expect("a field in use").last();
     let value = match dice.below(8) {
         0..=2 => field.value.saturating_sub(1 + dice.below(2)),
-        3 | 4 => field.value + 1 + dice.below(2),
-        5 => field.value ^ 1 << dice.below(4),
+        3 | 4 => field.value.saturating_add(1 + dice.below(2)),
+        5 => field.value ^ 1 << dice.pick(&[0, 1, 2, 3, 32, 63]),
         _ => dice.pick(&VALUES),
     };
     field.value = if dice.one_in(4) { value } else { value.min(last) };

@@ -10,6 +10,7 @@ use reference::fields::MOST_SEATS;
 use reference::list::LAST_POSITION;
 use reference::{Answer, AnswerKind, Board, Call, Config, Field, Kind, Offset, Refusal, Tuple};
 
+use super::long::{any_count, lengthen, lengthen_call};
 use super::{announced, good_field, good_tuple, spoil, Dice, PARTS, SEATS};
 
 /// Why a call is denied.
@@ -269,7 +270,8 @@ struct Racer {
 
 impl Racer {
     fn new(dice: &mut Dice, seat: u32) -> Racer {
-        let serial = dice.pick(&[0, 1, 100, 16_300, (1 << 28) - 9, Kind::Count.last() - LAST_POSITION]);
+        let last = Kind::Count.last() - LAST_POSITION;
+        let serial = dice.pick(&[0, 1, 100, 16_300, (1 << 28) - 9, (1 << 32) - 9, (1 << 63) - 9, last]);
         Racer { seat, serial, shift: any_shift(dice), sums: Vec::new() }
     }
 
@@ -395,12 +397,12 @@ impl Race {
     }
 }
 
-/// A call at this list: right, with one thing wrong, or seldom with several.
+/// A call at this list: right, with one thing wrong, or seldom with several; now and then with a count above 32 bits.
 pub fn near_call(dice: &mut Dice, board: &Board, process: u32) -> Call {
     let entry = near_entry(dice, board, process);
     let position = entry.fields[1].value;
     let template = match dice.below(20) {
-        0 => Tuple::listed_template(dice.pick(&[position + 1, position.max(1) - 1])),
+        0 => Tuple::listed_template(dice.pick(&[position.saturating_add(1), position.max(1) - 1])),
         1 | 2 => near_template(dice, &entry),
         _ => Tuple::listed_template(position),
     };
@@ -416,6 +418,9 @@ pub fn near_call(dice: &mut Dice, board: &Board, process: u32) -> Call {
         let part = dice.below(PARTS);
         spoil(dice, &mut call, part);
     }
+    if dice.one_in(20) {
+        lengthen_call(dice, &mut call);
+    }
     call
 }
 
@@ -426,10 +431,10 @@ fn near_entry(dice: &mut Dice, board: &Board, process: u32) -> Tuple {
     let own: Vec<_> = list.iter().filter(|(_, seat, _, _)| *seat == u64::from(process)).copied().collect();
     let (mut position, mut seat, mut shift) =
         (near_position(dice, board), u64::from(process), any_shift(dice));
-    let mut serial = if dice.one_in(8) { dice.below(4) } else { dice.below(1 << 32) };
+    let mut serial = if dice.one_in(8) { dice.below(4) } else { any_count(dice) };
     match dice.below(20) {
         0 => position = dice.pick(&[0, 0, 1, 111, 112, 113, 114, 255, Kind::Count.last()]),
-        1 => position += 1 + dice.below(2),
+        1 => position = position.saturating_add(1 + dice.below(2)),
         2 if dice.one_in(4) => seat = dice.pick(&SEATS).into(),
         2 => seat = dice.below(board.config.n.min(MOST_SEATS + 1) + 2),
         3 => shift = Offset::MARK,
@@ -451,19 +456,20 @@ fn near_entry(dice: &mut Dice, board: &Board, process: u32) -> Tuple {
 /// The first position, the one behind the newest list tuple, or behind any.
 pub fn near_position(dice: &mut Dice, board: &Board) -> u64 {
     let list: Vec<_> = board.held().iter().filter_map(looks_listed).collect();
-    1 + match dice.below(8) {
+    let before: u64 = match dice.below(8) {
         _ if list.is_empty() => 0,
         0 => 0,
         1..=4 => list[list.len() - 1].0,
         _ => dice.pick(&list).0,
-    }
+    };
+    before.saturating_add(1)
 }
 
-/// Position, seat, serial and shift of a list tuple, and of what looks like one, each within its kind's range.
+/// Position, seat, serial and shift of a list tuple, and of what looks like one, its shift within its kind's range.
 pub fn looks_listed(tuple: &Tuple) -> Option<(u64, u64, u64, u64)> {
     let [_, position, seat, serial, shift, _] = tuple.fields;
     let counts = [position, seat, serial];
-    let [position, seat, serial] = counts.map(|field| field.value.min(Kind::Count.last()));
+    let [position, seat, serial] = counts.map(|field| field.value);
     let shift = shift.value.clamp(1, Offset::LAST);
     counts.iter().all(|field| field.kind == Kind::Count as u32).then_some((position, seat, serial, shift))
 }
@@ -516,6 +522,7 @@ pub fn odd_listed(dice: &mut Dice, config: &Config, place: u64, often: u64) -> T
         4 => tuple.fields[dice.below(5) as usize] = good_field(dice, true),
         5 => tuple = Tuple::proposal(place, seat, shift),
         6 => tuple = good_tuple(dice, true),
+        7 | 8 => lengthen(dice, &mut tuple),
         _ => {}
     }
     tuple

@@ -7,6 +7,8 @@ pub mod announced;
 pub mod denials;
 pub mod dumps;
 pub mod lists;
+pub mod long;
+pub mod numbers;
 pub mod reached;
 pub mod tables;
 pub mod wide;
@@ -19,12 +21,14 @@ use reference::dump::dump_into;
 use reference::fields::{MOST_FIELDS, MOST_SEATS};
 use reference::list::LAST_POSITION;
 use reference::records::{read_record, record_of, write_record};
-use reference::script::{run, run_into, LONGEST_SCRIPT};
+use reference::script::{run, run_into, ROOM_FOR_TEXT};
 use reference::sys::Crosses;
 use reference::{flat, sys};
 use reference::{
     Answer, AnswerKind, Board, Call, Config, Field, Kind, Offset, Phase, Refusal, Seat, Step, Tuple,
 };
+
+use long::any_count;
 
 /// How many numbers the answer to a call is counted under: 0 for those obeyed, then each refusal's. 14 and 15 are no call's.
 pub const ANSWERS: usize = Refusal::Unborne as usize + 1;
@@ -63,7 +67,7 @@ impl Dice {
 }
 
 /// Values at the bounds of 01 and 02, and around them.
-pub const VALUES: [u64; 34] = [
+pub const VALUES: [u64; 39] = [
     0,
     1,
     2,
@@ -96,7 +100,12 @@ pub const VALUES: [u64; 34] = [
     200_002,
     4_294_967_295,
     4_294_967_296,
+    4_294_967_297,
+    (1 << 35) - 1,
+    1 << 35,
+    (1 << 63) - 1,
     1 << 63,
+    (1 << 63) + 1,
     u64::MAX,
 ];
 
@@ -111,15 +120,16 @@ pub const SEATS: [u32; 10] = {
 };
 
 /// Every policy, and numbers that are none's.
-pub const POLICIES: [u64; 8] = [0, 1, 2, 3, 4, 5, 6, u64::MAX];
+pub const POLICIES: [u64; 9] = [0, 1, 2, 3, 4, 5, 6, 4_294_967_299, u64::MAX];
 
 /// How many choices: all of policy 3, and beyond its bounds.
-pub const CHOICES: [u64; 12] = [0, 1, 2, 3, 4, 5, 6, 7, 8, 9, 4_294_967_295, u64::MAX];
+pub const CHOICES: [u64; 13] = [0, 1, 2, 3, 4, 5, 6, 7, 8, 9, 4_294_967_295, 4_294_967_298, u64::MAX];
 
-/// How many may stray: all that any set-up has and one more, and so many that 3t, 4t or 9t just fits in 64 bits, or wraps.
-pub const STRAYS: [u64; 19] = {
+/// How many may stray: all that any set-up has and one more, and so many that 3t, 4t or 9t just fits in 64 bits, or wraps; and one whose low
+/// bits are those of 1.
+pub const STRAYS: [u64; 20] = {
     let [x, y, z] = [u64::MAX / 3, u64::MAX / 4, u64::MAX / 9];
-    [0, 1, 2, 3, 4, 5, 6, 7, 8, 9, 10, 11, x, x + 1, y, y + 1, z, z + 1, u64::MAX]
+    [0, 1, 2, 3, 4, 5, 6, 7, 8, 9, 10, 11, x, x + 1, y, y + 1, z, z + 1, 4_294_967_297, u64::MAX]
 };
 
 /// How many seats a run has: mostly few, so that they get far, else any number or all.
@@ -150,7 +160,7 @@ pub fn odd_config(dice: &mut Dice) -> Config {
 /// Every n, t, policy and k at and around its bounds, with every other: among them n one too small for k and t.
 pub fn every_config() -> Vec<Config> {
     let mut configs = Vec::new();
-    for n in (0..=MOST_SEATS + 2).chain([u64::MAX]) {
+    for n in (0..=MOST_SEATS + 2).chain([4_294_967_300, u64::MAX]) {
         for t in STRAYS {
             for policy in POLICIES {
                 configs.extend(CHOICES.map(|k| Config { n, t, policy, k }));
@@ -204,6 +214,7 @@ pub fn good_field(dice: &mut Dice, entry: bool) -> Field {
     }
     let value = match dice.below(3) {
         0 => dice.below(4),
+        1 if kind == Kind::Count => any_count(dice),
         1 => dice.next() % (kind.last() + 1),
         _ => dice.pick(&VALUES).min(kind.last()),
     };
@@ -269,8 +280,9 @@ pub fn soil(dice: &mut Dice, place: &mut Tuple, part: u64) {
     match (part % 3, Kind::from_number(field.kind.into())) {
         (0, Some(kind)) => field.kind = dice.pick(&[0, 5, 65_536 + kind as u32, u32::MAX]),
         (0, None) => field.kind = dice.pick(&KINDS[1..]),
-        (1, _) => field.state = dice.pick(&STATES[1..]),
-        (_, Some(kind)) => field.value = dice.pick(&[kind.last() + 1, u64::MAX]),
+        // No value is beyond a count.
+        (1, _) | (_, Some(Kind::Count)) => field.state = dice.pick(&STATES[1..]),
+        (_, Some(kind)) => field.value = dice.pick(&[kind.last() + 1, 1 << 32, u64::MAX]),
         (_, None) => field.value = dice.pick(&VALUES[1..]),
     }
 }
@@ -346,15 +358,15 @@ pub fn compare_write(call: &Call, buffer: &[u8]) {
     same(proved, plain, || format!("{call:?} into {} bytes", buffer.len()));
 }
 
-/// Reading the record at a place, by both.
-pub fn compare_read(bytes: &[u8], at: usize) -> bool {
+/// Reading the record at a place, by both. Gives the number of its refusal, 0 if it reads.
+pub fn compare_read(bytes: &[u8], at: usize) -> usize {
     let proved = sys::read(bytes, at);
     let plain = match read_record(bytes.get(at..).unwrap_or(&[])) {
         Ok((call, taken)) => sys::Read { refusal: 0, next: at + taken, call: flat::call(&call) },
         Err(refusal) => sys::Read { refusal: refusal.number().into(), ..sys::Read::default() },
     };
     same_bytes(proved, plain, || format!("{bytes:02X?} at {at}"));
-    plain.refusal == 0
+    plain.refusal as usize
 }
 
 /// A script's text into a buffer, by both, and into one that has room for every text.
@@ -372,19 +384,17 @@ pub fn compare_lent(script: &[u8], buffer: &[u8]) -> Result<usize, Refusal> {
     answer
 }
 
-/// The buffer that the program lends has room for the text of every script, so that the text is not measured first.
-const EVERY_TEXT: usize = 16 * LONGEST_SCRIPT + 64;
-
 thread_local! {
-    /// Such a buffer with its guards, and how many scripts it was lent for.
-    static WIDE: RefCell<(Vec<u8>, usize)> = RefCell::new((vec![GUARDED; EVERY_TEXT + 2 * GUARD], 0));
+    /// The buffer that the program lends, with its guards, and how many scripts it was lent for. It has room for the text of every script, so
+    /// that the text is not measured first.
+    static WIDE: RefCell<(Vec<u8>, usize)> = RefCell::new((vec![GUARDED; ROOM_FOR_TEXT + 2 * GUARD], 0));
 }
 
-/// A script's text by the path that the program takes, and nothing around it.
-pub fn compare_text(script: &[u8]) {
+/// A script's text by the path that the program takes, and nothing around it. Gives the text.
+pub fn compare_text(script: &[u8]) -> String {
     let text = run(script);
     WIDE.with_borrow_mut(|(wide, lent)| {
-        let answer = sys::script(script, &mut wide[GUARD..GUARD + EVERY_TEXT]);
+        let answer = sys::script(script, &mut wide[GUARD..GUARD + ROOM_FOR_TEXT]);
         let end = GUARD + text.len();
         let ours = String::from_utf8_lossy(&wide[GUARD..end]);
         same((answer, ours.as_ref()), (Ok(text.len()), &text), || format!("{script:02X?}"));
@@ -392,11 +402,12 @@ pub fn compare_text(script: &[u8]) {
         // All of what is outside the text now and then, else what is next to it, and the guards.
         let near = (end + 1024).min(wide.len());
         let (front, rest) =
-            if *lent % 64 == 0 { (wide.len(), wide.len()) } else { (near, GUARD + EVERY_TEXT) };
+            if *lent % 64 == 0 { (wide.len(), wide.len()) } else { (near, GUARD + ROOM_FOR_TEXT) };
         let changed = wide[..front].iter().chain(&wide[rest..]).filter(|byte| **byte != GUARDED).count();
         same(changed, 0, || format!("bytes outside the text of {script:02X?}"));
         *lent += 1;
     });
+    text
 }
 
 /// How many scripts' texts were compared by the path that the program takes, on this thread.

@@ -315,10 +315,10 @@ pub fn stranger(dice: &mut Dice, config: &Config) -> Tuple {
     let n = config.n.clamp(1, MOST_SEATS);
     let offset = if dice.one_in(3) { no_choice(dice, config.k.min(8)) } else { likely_offset(dice, config) };
     if dice.one_in(2) {
-        let seat = dice.pick(&[0, n + 1, n + 1, n + 2, MOST_SEATS + 1, Kind::Count.last()]);
+        let seat = dice.pick(&[0, n + 1, n + 1, n + 2, MOST_SEATS + 1, (1 << 32) + n, Kind::Count.last()]);
         return Tuple::proposal(dice.below(LAST_ROUND + 1), seat, offset);
     }
-    let round = dice.pick(&[8, 8, 8, 9, 255, Kind::Count.last()]);
+    let round = dice.pick(&[8, 8, 8, 9, 255, 1 << 32, Kind::Count.last()]);
     Tuple::proposal(round, 1 + dice.below(n), offset)
 }
 

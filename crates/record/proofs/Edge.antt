@@ -16,4 +16,4 @@ unfolding seen stated codedOf decodedOf largestOf
     headOf readNumber valueAt fieldAt fieldsAt tupleAt partAt partsAt bodyAt callAt
     fieldBytes fieldsBytes tupleBytes partBytes callBytes writtenOf leftOf
     knownHead fieldFault fieldsFault tupleFault partFault usesTemplate usesEntry usedFault isBlank placeBlank restFrom restBlank callFault
-edge-values = refl
+edge-values = record { rows = refl; aboves = refl }

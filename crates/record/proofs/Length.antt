@@ -1,5 +1,5 @@
--- A record has at most 140 bytes, and one has exactly 140; one whose counts are of 32 bits has at most 80, and reads as before. Of each part the most bytes,
--- by the most bytes of a value, from varint's widths and what no fault tells.
+-- A record has at most 140 bytes, and one has exactly 140: of each part the most bytes, by the most bytes of a value, from varint's widths and what no fault
+-- tells.
 use mathlib.Core.Path.{_≡_, refl, ap}
 use Prim.Native.Nat.{ℕ, zero, suc, _+_, _*_, _≤_, _<_}
 use native.Mathlib.Nat.{mul-add, mul-le-mul-left}
@@ -31,7 +31,7 @@ pub width-one : (value : ℕ) → value < 128 → widthOf value ≡ 1
 width-one value h = ap length (bytes-last value h)
 
 -- each given value has at most so many bytes
-abbrev Narrow : ℕ → List Field → Type 0
+abbrev pub Narrow : ℕ → List Field → Type 0
 Narrow most [] = Unit {0}
 Narrow most (field ∷ fields) = (isDefined field ≡ true → widthOf (field .value) ≤ most) × Narrow most fields
 
@@ -79,7 +79,7 @@ module _ (most : ℕ) where
   part-within false entry tuple h narrow = omega arith
 
   -- a process of at most five bytes, a code of one, and two parts
-  call-within : (call : Call) → Typed call → callFault call ≡ Absent
+  pub call-within : (call : Call) → Typed call → callFault call ≡ Absent
       → (usesTemplate (call .code) ≡ true → Narrow most (take (call .template .count) (call .template .fields)))
       → (usesEntry (call .code) ≡ true → Narrow most (take (call .entry .count) (call .entry .fields)))
       → length (callBytes call) ≤ 6 + 2 * (1 + (1 + most) * 6)
@@ -111,54 +111,6 @@ at-most call typed h =
     call-within 10 call typed h
     (λ u. narrow-any (take (call .template .count) (call .template .fields)))
     (λ u. narrow-any (take (call .entry .count) (call .entry .fields)))
-
--- ---- counts of 32 bits
-
--- a value of another kind is of 32 bits
-kind-few : (kind : ℕ) → (kind ≡ 2 → ⊥) → largestOf kind ≤ 4_294_967_295
-unfolding largestOf
-kind-few kind other =
-    picked Few (eqb kind word) (λ e. omega arith)
-    (λ e. picked Few (eqb kind count) (λ e. absurd (other (eqb-true kind count e)))
-    (λ e. picked Few (eqb kind offset) (λ e. omega arith)
-    (λ e. picked Few (eqb kind processSet) (λ e. omega arith) (λ e. omega arith))))
-  where
-    Few : ℕ → Type 0
-    Few n = n ≤ 4_294_967_295
-
--- so each given value has at most five bytes
-value-few : {entry : Bool} (field : Field) → PassedField entry field → (field .kind ≡ 2 → field .state ≡ 0 → field .value ≤ 4_294_967_295)
-    → isDefined field ≡ true → widthOf (field .value) ≤ 5
-value-few field sound old d =
-    width-of-few (field .value)
-    (cases (eqb (field .kind) 2)
-    (λ e. old (eqb-true (field .kind) 2 e) (eqb-true (field .state) 0 d))
-    (λ e. omega (arith, sound .small d, kind-few (field .kind) (eqb-false (field .kind) 2 e))))
-
-narrow-old : (entry : Bool) (n : ℕ) (fields : List Field) → fieldsFault entry (take n fields) ≡ Absent
-    → ((i : ℕ) → i < n → getD fields i blankField .kind ≡ 2 → getD fields i blankField .state ≡ 0 → getD fields i blankField .value ≤ 4_294_967_295)
-    → Narrow 5 (take n fields)
-narrow-old entry zero fields h old = tt
-narrow-old entry (suc n) [] h old = tt
-narrow-old entry (suc n) (field ∷ fields) h old =
-    let sound = fields-sound entry field (take n fields) h in
-    (value-few field (sound .0) (old 0 (omega arith)), narrow-old entry n fields (sound .1) (λ i below. old (suc i) (omega arith)))
-
-part-old : (used entry : Bool) (tuple : Tuple) → partFault tuple used entry ≡ Absent → (used ≡ true → OldTuple tuple)
-    → used ≡ true → Narrow 5 (take (tuple .count) (tuple .fields))
-unfolding partFault
-part-old true entry tuple h old u = narrow-old entry (tuple .count) (tuple .fields) (tuple-sound entry tuple h .fields) (old u)
-part-old false entry tuple h old u = absurd (false≢true u)
-
-pub old-records : OldRecords
-old-records call s rest at typed h old e =
-    let sound = call-sound call h in
-    record {
-      short = call-within 5 call typed h
-          (part-old (usesTemplate (call .code)) false (call .template) (sound .template .fault) (λ u. old .template (template-rule call .0 u)))
-          (part-old (usesEntry (call .code)) true (call .entry) (sound .entry .fault) (λ u. old .entry (entry-rule call .0 u)));
-      reads = read-back call s rest at typed h e;
-    }
 
 -- ---- the longest
 

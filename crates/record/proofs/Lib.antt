@@ -4,6 +4,7 @@ pub mod FirstFault
 pub mod HeadLaws
 pub mod Length
 pub mod NumberLaws
+pub mod OldLaws
 pub mod OnlyForm
 pub mod ReadBack
 pub mod RecordCut

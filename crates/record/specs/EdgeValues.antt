@@ -28,7 +28,7 @@ use Rattle.varint.specs.declared.Number.the-variants.{Value, Cut, Overlong}
 use Rattle.varint.specs.declared.Written.{Written}
 use Rattle.varint.specs.declared.Written.the-variants.{Next as Stored, Beyond, NoRoom}
 use Rattle.varint.specs.Reading.{numberRefusal, numberAt}
-use Rattle.varint.specs.Writing.{writtenRefusal, writtenAt, leftAt}
+use Rattle.varint.specs.Writing.{bytesOf, writtenRefusal, writtenAt, leftAt}
 
 -- ---- calls, in 01's numbers
 
@@ -222,6 +222,16 @@ statedAt (above value n) bytes = unread (refused n) (unwritten n)
 unfoldable pub stated : Row → Seen
 stated row = statedAt (row .meaning) (row .bytes)
 
--- the claim: every row is what the definitions say
-abbrev pub EdgeValues : Type 0
-EdgeValues = map seen table ≡ map stated table
+-- the bytes that a number above the largest would have
+abbrev pub aboveBytes : Meaning → List ℕ → List ℕ
+aboveBytes (number value) bytes = bytes
+aboveBytes (signed o) bytes = bytes
+aboveBytes (call c) bytes = bytes
+aboveBytes (refused n) bytes = bytes
+aboveBytes (outside o n) bytes = bytes
+aboveBytes (above value n) bytes = bytesOf value
+
+-- the claim: every row is what the definitions say, and the bytes beside a number above the largest are that number's
+pub record EdgeValues : Type 0 where
+  pub rows : map seen table ≡ map stated table
+  pub aboves : map (λ (row : Row). aboveBytes (row .meaning) (row .bytes)) table ≡ map (λ (row : Row). row .bytes) table

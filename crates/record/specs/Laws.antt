@@ -2,7 +2,8 @@
 use mathlib.Core.Path.{_≡_}
 use mathlib.Core.Logic.{_↔_}
 use Prim.Native.Nat.{ℕ, _+_, _-_, _*_, _≤_, _<_}
-use mathlib.Core.List.{List, _++_}
+use mathlib.Core.Bool.{cond}
+use mathlib.Core.List.{List, [], _∷_, _++_}
 use lib.ListN.{length, take, drop}
 use Rattle.record.specs.declared.head.Head.the-variants.{Known, Unknown}
 use Rattle.record.specs.declared.reader.Next.the-variants.{Refused}
@@ -17,10 +18,11 @@ use Rattle.tuple.specs.declared.field.Tuple.{Tuple}
 use Rattle.tuple.specs.declared.field.Call.{Call}
 use Rattle.tuple.specs.declared.refusal.Refusal.{Refusal}
 use Rattle.tuple.specs.FaultLaws.{HasTemplate, HasEntry}
-use Rattle.tuple.specs.Faults.{usedFault, callFault}
+use Rattle.tuple.specs.Faults.{isDefined, usesTemplate, usesEntry, usedFault, callFault}
 use Rattle.tuple.specs.Refusals.{numberOf, refusal}
 use Rattle.tuple.specs.Shapes.{field}
 use Rattle.varint.specs.Reading.{Bytes}
+use Rattle.varint.specs.Writing.{bytesOf}
 
 -- ---- heads
 
@@ -151,7 +153,34 @@ Attained = (call : Call) × Typed call × (callFault call ≡ Absent) × (length
 
 -- ---- request 2.10, old records read as before
 
--- each given count is of 32 bits, as all were in document 01
+-- the numbers that a record is made of, from the left
+abbrev pub fieldNumbers : Field → List ℕ
+fieldNumbers f = headNumber f ∷ cond (isDefined f) (f .value ∷ []) []
+
+abbrev pub fieldsNumbers : List Field → List ℕ
+fieldsNumbers [] = []
+fieldsNumbers (f ∷ fields) = fieldNumbers f ++ fieldsNumbers fields
+
+abbrev pub tupleNumbers : Tuple → List ℕ
+tupleNumbers tuple = tuple .count ∷ fieldsNumbers (take (tuple .count) (tuple .fields))
+
+abbrev pub callNumbers : Call → List ℕ
+callNumbers call =
+    call .process
+    ∷ call .code
+    ∷ (cond (usesTemplate (call .code)) (tupleNumbers (call .template)) [] ++ cond (usesEntry (call .code)) (tupleNumbers (call .entry)) [])
+
+-- numbers one behind the other
+abbrev pub numbersBytes : List ℕ → List ℕ
+numbersBytes [] = []
+numbersBytes (n ∷ numbers) = bytesOf n ++ numbersBytes numbers
+
+-- each is one that document 01 read (`OldNumbers` of `varint`)
+abbrev pub Old : List ℕ → Type 0
+Old [] = Unit {0}
+Old (n ∷ numbers) = (n ≤ 4_294_967_295) × Old numbers
+
+-- each given count of the parts that a call uses is of 32 bits
 abbrev pub OldTuple : Tuple → Type 0
 OldTuple tuple = (i : ℕ) → i < tuple .count → field tuple i .kind ≡ 2 → field tuple i .state ≡ 0 → field tuple i .value ≤ 4_294_967_295
 
@@ -159,16 +188,12 @@ pub record OldCall (call : Call) : Type 0 where
   pub template : HasTemplate call → OldTuple (call .template)
   pub entry : HasEntry call → OldTuple (call .entry)
 
--- the record of such a call has at most 80 bytes, and reads as that call, wherever it stands and whatever follows
-pub record OldRecord (call : Call) (s : List ℕ) (at : ℕ) : Type 0 where
-  pub short : length (callBytes call) ≤ 80
-  pub reads : callAt s at ≡ record { next = place (at + length (callBytes call)); call = call }
+-- a record is its numbers, one behind the other; each of them is one that document 01 read exactly when the given counts are of 32 bits; and then the record
+-- has at most 80 bytes
+pub record OldRecord (call : Call) : Type 0 where
+  pub numbers : callBytes call ≡ numbersBytes (callNumbers call)
+  pub read : Old (callNumbers call) ↔ OldCall call
+  pub short : OldCall call → length (callBytes call) ≤ 80
 
 abbrev pub OldRecords : Type 0
-OldRecords =
-    (call : Call) (s rest : List ℕ) (at : ℕ)
-    → Typed call
-    → callFault call ≡ Absent
-    → OldCall call
-    → drop at s ≡ callBytes call ++ rest
-    → OldRecord call s at
+OldRecords = (call : Call) → Typed call → callFault call ≡ Absent → OldRecord call

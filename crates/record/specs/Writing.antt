@@ -60,10 +60,6 @@ leftOf call buffer = bufferStep call buffer (writtenOf call (length buffer))
 
 -- ---- what the laws ask
 
--- the most bytes of a record
-abbrev pub longest : ℕ
-longest = 140
-
 -- what the struct's types say of a call: the bound of its process, and that each of its tuples has six places
 pub record Typed (call : Call) : Type 0 where
   pub process : call .process ≤ largestProcess

@@ -69,27 +69,27 @@ asked : Call → ℕ
 asked call = cond (usesTemplate (call .code)) (call .template .count) 0
 
 -- an answer's most bytes, by the fields that its call asks for: a word, or a word and as many fields
-roomOf : ℕ → ℕ
-roomOf zero = 11
-roomOf (suc more) = 28 + 22 * more
+answerMost : ℕ → ℕ
+answerMost zero = 11
+answerMost (suc more) = 28 + 22 * more
 
-room-least : (fields : ℕ) → 11 ≤ roomOf fields
-unfolding roomOf
-room-least zero = omega arith
-room-least (suc more) = omega arith
+answer-least : (fields : ℕ) → 11 ≤ answerMost fields
+unfolding answerMost
+answer-least zero = omega arith
+answer-least (suc more) = omega arith
 
-room-found : (fields : ℕ) → 1 ≤ fields → 6 + 22 * fields ≤ roomOf fields
-unfolding roomOf
-room-found zero some = absurd (omega arith)
-room-found (suc more) some = omega arith
+answer-found : (fields : ℕ) → 1 ≤ fields → 6 + 22 * fields ≤ answerMost fields
+unfolding answerMost
+answer-found zero some = absurd (omega arith)
+answer-found (suc more) some = omega arith
 
 -- with a number of five digits and a line feed it is no longer than sixteen times the least bytes of the record: those of the process, the code and, if there
 -- is a template, the count and a head for each field. With six fields both are 144
-room-most : (used : Bool) (count : ℕ) → (used ≡ true → (1 ≤ count) × (count ≤ places)) → 6 + roomOf (cond used count 0) ≤ 16 * (2 + cond used (1 + count) 0)
-unfolding roomOf
-room-most false count range = omega arith
-room-most true zero range = absurd (omega (arith, range refl .0))
-room-most true (suc more) range = omega (arith, range refl .1)
+line-room : (used : Bool) (count : ℕ) → (used ≡ true → (1 ≤ count) × (count ≤ places)) → 6 + answerMost (cond used count 0) ≤ 16 * (2 + cond used (1 + count) 0)
+unfolding answerMost
+line-room false count range = omega arith
+line-room true zero range = absurd (omega (arith, range refl .0))
+line-room true (suc more) range = omega (arith, range refl .1)
 
 -- each field takes a byte, and so do the process, the code and the count
 fields-least : (fields : List Field) → length fields ≤ length (fieldsBytes fields)
@@ -135,29 +135,29 @@ module _ (tuples : List Tuple) (call : Call) (entries : Entries tuples) where
 
   -- what an answer's text has at most
   Short : Effect → Type 0
-  Short done = length (replyText (done .reply)) ≤ roomOf (asked call)
+  Short done = length (replyText (done .reply)) ≤ answerMost (asked call)
 
   append-short : (how : Outcome) → length (outcomeText how blankTuple) ≤ 11 → Short (appends how (length tuples))
   unfolding Short outcomeText
   append-short how short =
-      picked (λ (done : Effect). length (replyText (done .reply)) ≤ roomOf (asked call)) (ltb (length tuples) capacity)
-      (λ e. omega (arith, room-least (asked call)))
-      (λ e. omega (arith, room-least (asked call), refusal-most (refusal 8)))
+      picked (λ (done : Effect). length (replyText (done .reply)) ≤ answerMost (asked call)) (ltb (length tuples) capacity)
+      (λ e. omega (arith, answer-least (asked call)))
+      (λ e. omega (arith, answer-least (asked call), refusal-most (refusal 8)))
 
   -- a found tuple has room behind its word
-  asks : 1 ≤ call .template .count → usesTemplate (call .code) ≡ true → 6 + 22 * call .template .count ≤ roomOf (asked call)
+  asks : 1 ≤ call .template .count → usesTemplate (call .code) ≡ true → 6 + 22 * call .template .count ≤ answerMost (asked call)
   unfolding asked
-  asks some uses = rw uses (room-found (call .template .count) some)
+  asks some uses = rw uses (answer-found (call .template .count) some)
 
   rdp-short : 1 ≤ call .template .count → usesTemplate (call .code) ≡ true → (found : Found) → oldestOf tuples (call .template) ≡ found → Short (rdpEffect tuples found)
   unfolding Short outcomeText
   rdp-short some uses (At i) e = omega (arith, asks some uses, found-most i e)
-  rdp-short some uses Nowhere e = omega (arith, room-least (asked call))
+  rdp-short some uses Nowhere e = omega (arith, answer-least (asked call))
 
   inp-short : 1 ≤ call .template .count → usesTemplate (call .code) ≡ true → (found : Found) → oldestOf tuples (call .template) ≡ found → Short (inpEffect tuples found)
   unfolding Short outcomeText
   inp-short some uses (At i) e = omega (arith, asks some uses, found-most i e)
-  inp-short some uses Nowhere e = omega (arith, room-least (asked call))
+  inp-short some uses Nowhere e = omega (arith, answer-least (asked call))
 
   cas-short : 1 ≤ call .template .count → usesTemplate (call .code) ≡ true → (found : Found) → oldestOf tuples (call .template) ≡ found → Short (casEffect tuples found)
   unfolding Short outcomeText
@@ -176,10 +176,10 @@ module _ (tuples : List Tuple) (call : Call) (entries : Entries tuples) where
       (λ b. cases (eqb (call .code) inp) (λ c. rw (a, b, c) (inp-short some more found refl)) (λ c. rw (a, b, c) (cas-short some more found refl))))
 
 module _ (space : Space) (call : Call) where
-  steps-short : {after : Applied} → Steps space call after → length (replyText (after .reply)) ≤ roomOf (asked call)
+  steps-short : {after : Applied} → Steps space call after → length (replyText (after .reply)) ≤ answerMost (asked call)
   unfolding outcomeText Short
-  steps-short (Steps.refuses why low) = omega (arith, room-least (asked call), refusal-most why)
-  steps-short (Steps.denies {why} d) = omega (arith, room-least (asked call), refusal-most why)
+  steps-short (Steps.refuses why low) = omega (arith, answer-least (asked call), refusal-most why)
+  steps-short (Steps.denies {why} d) = omega (arith, answer-least (asked call), refusal-most why)
   steps-short (Steps.obeys formed sound known p) = effect-short (held space) call (held-lawful space formed .entries) sound
 
 -- ---- lines
@@ -204,7 +204,7 @@ line-most {call = call} number space read few =
       decimal-most 4 number few,
       steps-short space call (steps space call),
       call-least call (read .typed) (read .sound),
-      room-most (usesTemplate (call .code)) (call .template .count) (template-range call (read .sound)),
+      line-room (usesTemplate (call .code)) (call .template .count) (template-range call (read .sound)),
     )
 
 pub unread-most : (number : ℕ) (why : Refusal) → number < 10 ^ 5 → length (unreadLine number why) ≤ 17

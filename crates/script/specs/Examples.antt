@@ -1,6 +1,5 @@
--- Document 01, "A whole script", and document 02, 2.1 to 2.3, 2.6 and 2.7, by examples: the worked script and short ones, under every policy, as rows of one table with one
--- claim. A script above 65,536 bytes is no row, for `LongRule` speaks of all of them; nor is a count of millions, for whose digits the checker would take as
--- many steps.
+-- Document 01, "A whole script", and document 02, 2.1 to 2.3, 2.6 to 2.8 and 2.10, by examples: the worked script and short ones, under every policy, as rows
+-- of one table with one claim. A script above 65,536 bytes is no row, for `LongRule` speaks of all of them.
 use mathlib.Core.Path.{_≡_}
 use Prim.Native.Nat.{ℕ, _+_, _*_, _-_}
 use Prim.Native.Char.{Char, code}

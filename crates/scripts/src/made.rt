@@ -48,13 +48,13 @@ pub(crate) fn longest() {
 // n is 31, t is 10, and the policy is bare; seat 1, out, six fields
 const OPENING: [u8; 6] = [31, 10, 0, 1, 1, 6];
 
-// a count, of all ones
-const LARGEST: [u8; 11] = [8, 255, 255, 255, 255, 255, 255, 255, 255, 255, 1];
+// a field: the largest count
+const LARGEST_COUNT: [u8; 11] = [8, 255, 255, 255, 255, 255, 255, 255, 255, 255, 1];
 
 // seat 1, rdp, six fields, any count in each
 const ASKED: [u8; 9] = [1, 2, 6, 9, 9, 9, 9, 9, 9];
 
-// seat 0, rdp, one field, any word; then seat 1 and a code that is unknown
+// seat 0, rdp, one field, any word; then seat 1, a code that is unknown, and a byte more
 const CLOSING: [u8; 7] = [0, 2, 1, 5, 1, 9, 0];
 
 const FOUND_FROM: usize = 72;
@@ -69,7 +69,7 @@ fn longest_byte(i: usize) -> u8
         return OPENING[i];
     }
     if i < FOUND_FROM {
-        return LARGEST[(i - 6) % 11];
+        return LARGEST_COUNT[(i - 6) % 11];
     }
     if i < CLOSED_FROM {
         return ASKED[(i - FOUND_FROM) % 9];

@@ -8,8 +8,8 @@ pub enum Refusal {
     Unsound,
     // 2: the bytes end inside a number or record.
     Cut,
-    // 3: a number too long or not shortest, a value beyond its kind, or on starting a process a round or an offset that is not
-    // allowed.
+    // 3: a number too long or not shortest, a process of a record above 4,294,967,295, a value beyond its kind, or on starting a
+    // process a round or an offset that is not allowed.
     Beyond,
     // 4: an unknown call code or head.
     Unknown,

@@ -4,19 +4,20 @@ use Prim.Native.Nat.{ℕ, zero, suc, _+_, _-_, _*_, _/_, _%_, _^_, _≤_, _<_}
 use native.Mathlib.Omega.{arith}
 use mathlib.Core.Bool.{Bool, true, false, cond}
 use mathlib.Core.List.{List, [], _∷_, _++_}
-use mathlib.Core.Logic.{_↔_}
+use mathlib.Core.Logic.{_↔_, _⊎_, inl, inr, ⊎-elim}
 use lib.ListN.{length, take, drop, getD}
 use lib.Seq.{length-take-le, getD-take, take-at, drop-at, drop-drop}
 use lib.Dec.{leb, ltb, eqb}
-use borrow.Author.Tests.{le-ltb, le-leb, lt-leb, ne-eqb, ltb-true, ltb-false, leb-true, eqb-false}
+use borrow.Author.Tests.{lt-ltb, le-ltb, le-leb, lt-leb, ne-eqb, ltb-true, ltb-false, leb-true, leb-false, eqb-true, eqb-false, eq-eqb}
 use borrow.Table.Steps.{cases}
 use Rattle.varint.specs.declared.Number.{Number}
 use Rattle.varint.specs.declared.Number.the-variants.{Value, Cut, Overlong}
 use Rattle.varint.specs.Reading.{further, lastGroup, largest, numberRefusal, joined, numberFrom, numberAt, oldNumberAt, Bytes}
 use Rattle.varint.specs.Writing.{groupsOf, bytesOf, widthOf}
-use Rattle.varint.specs.Laws.{ReadBack, OnlyForm, Groups, GroupRule, ReadBeyond, CutRule, OldNumber, OldNumbers}
+use Rattle.varint.specs.Laws.{ReadBack, OnlyForm, Groups, GroupRule, ReadBeyond, CutRule, TooLong, OverlongRule, OldNumber, OldNumbers}
 use Rattle.varint.specs.Laws.Groups.{last-byte, goes-on}
-use Rattle.varint.proofs.WritingLaws.{groups-last, groups-step, bytes-last, bytes-step, width-most}
+use Rattle.varint.specs.Laws.TooLong.{tenth-byte, last-zero}
+use Rattle.varint.proofs.WritingLaws.{top, groups-last, groups-step, bytes-last, bytes-step, width-most}
 
 -- the largest number that `more` groups behind the first hold, the last of them at most `last`
 unfoldable pub greatest : ℕ → ℕ → ℕ
@@ -163,8 +164,19 @@ groups-read s at value next bytes e =
     ap (take (next - at)) (form .2) ∙ take-at (bytesOf value) (drop next s) (next - at) (omega (arith, form .1)) in
     rw taken (groups-written value (form .0))
 
+-- a number that `more` groups behind the first hold has at most one byte more than that
+groups-few : (more : ℕ) {value : ℕ} {l : List ℕ} → value < top more → Groups value l → length l ≤ more + 1
+unfolding top
+groups-few more h (last-byte byte low) = omega arith
+groups-few zero h (goes-on value byte rest l high small e some groups) = absurd (omega arith)
+groups-few (suc more) h (goes-on value byte rest l high small e some groups) = omega (arith, groups-few more (omega arith) groups)
+
+few-groups : (value : ℕ) (l : List ℕ) → value ≤ largest → Groups value l → length l ≤ 10
+unfolding top
+few-groups value l h groups = groups-few 9 (omega arith) groups
+
 pub group-rule : GroupRule
-group-rule = record { few = λ value h. width-most value; written = groups-written; read = groups-read }
+group-rule = record { few = few-groups; written = groups-written; read = groups-read }
 
 -- ---- when it is above the largest
 
@@ -246,6 +258,112 @@ read-cut s at value n h below e =
       omega (arith, width-most value),
       λ i inside. rw e (rw (getD-take n (bytesOf value) i 0 (omega arith)) (groups-on (groups-written value h) i (omega arith))),
     )
+
+-- ---- when it is too long, or not shortest
+
+-- `more` bytes go on and the next is above `last`, or one of these is 00 behind at least one other
+data Long (last more : ℕ) (l : List ℕ) : Type 0 where
+  above : more < length l → ((i : ℕ) → i < more → 128 ≤ getD l i 0) → last < getD l more 0 → Long last more l
+  zero-behind : (i : ℕ) → 1 ≤ i → i ≤ more → i < length l → ((j : ℕ) → j < i → 128 ≤ getD l j 0) → getD l i 0 ≡ 0 → Long last more l
+
+-- the number is read, and 0
+Zero : Number → Type 0
+Zero (Value value next) = value ≡ 0
+Zero Cut = ⊥
+Zero Overlong = ⊥
+
+joined-zero : (byte : ℕ) (r : Number) → Zero (joined byte r) → ⊥
+unfolding joined Zero
+joined-zero byte (Value value next) = picked (λ (r : Number). Zero r → ⊥) (eqb value 0) (λ e h. h) (λ e h. eqb-false value 0 e (omega arith))
+joined-zero byte Cut = λ h. h
+joined-zero byte Overlong = λ h. h
+
+-- so only a first byte 00 is
+zero-first : (last more : ℕ) (l : List ℕ) (at : ℕ) → Zero (numberFrom last more l at) ↔ ((0 < length l) × (getD l 0 0 ≡ 0))
+unfolding numberFrom Zero
+zero-first last zero [] at = (λ h. absurd h, λ h. absurd (omega (arith, h .0)))
+zero-first last (suc more) [] at = (λ h. absurd h, λ h. absurd (omega (arith, h .0)))
+zero-first last zero (byte ∷ l) at = (
+  picked (λ (r : Number). Zero r → (0 < length (byte ∷ l)) × (byte ≡ 0)) (leb byte last) (λ e h. (omega arith, h)) (λ e h. absurd h),
+  λ h. rw (le-leb byte last (omega (arith, h .1))) (h .1),
+)
+zero-first last (suc more) (byte ∷ l) at = (
+  picked (λ (r : Number). Zero r → (0 < length (byte ∷ l)) × (byte ≡ 0)) (ltb byte 128) (λ e h. (omega arith, h))
+      (λ e h. absurd (joined-zero byte (numberFrom last more l (at + 1)) h)),
+  λ h. rw (lt-ltb byte 128 (omega (arith, h .1))) (h .1),
+)
+
+joined-long : (byte : ℕ) (r : Number) → (numberRefusal (joined byte r) ≡ 3) ↔ ((numberRefusal r ≡ 3) ⊎ Zero r)
+unfolding joined Zero
+joined-long byte (Value value next) = (
+  picked (λ (r : Number). numberRefusal r ≡ 3 → (numberRefusal (Value value next) ≡ 3) ⊎ (value ≡ 0)) (eqb value 0)
+      (λ e h. inr (eqb-true value 0 e))
+      (λ e h. inl h),
+  ⊎-elim (λ h. absurd (omega arith)) (λ h. rw (eq-eqb value 0 h)),
+)
+joined-long byte Cut = (λ h. absurd (omega arith), ⊎-elim (λ h. absurd (omega arith)) (λ h. absurd h))
+joined-long byte Overlong = (λ h. inl h, λ h. refl)
+
+-- one byte more that goes on
+long-more : (last more byte : ℕ) (l : List ℕ) → 128 ≤ byte → Long last more l → Long last (suc more) (byte ∷ l)
+long-more last more byte l high (above inside on large) =
+    above (omega arith) (elim [ zero ↦ λ below. high | suc i ↦ λ below. on i (omega arith) ]) large
+long-more last more byte l high (zero-behind i some few inside on none) =
+    zero-behind (suc i) (omega arith) (omega arith) (omega arith) (elim [ zero ↦ λ below. high | suc j ↦ λ below. on j (omega arith) ]) none
+
+long-less : (last more byte : ℕ) (l : List ℕ) → Long last (suc more) (byte ∷ l) → (128 ≤ byte) × (Long last more l ⊎ ((0 < length l) × (getD l 0 0 ≡ 0)))
+long-less last more byte l (above inside on large) = (on 0 (omega arith), inl (above (omega arith) (λ i below. on (suc i) (omega arith)) large))
+long-less last more byte l (zero-behind zero some few inside on none) = absurd (omega arith)
+long-less last more byte l (zero-behind (suc zero) some few inside on none) = (on 0 (omega arith), inr (omega arith, none))
+long-less last more byte l (zero-behind (suc (suc i)) some few inside on none) =
+    (on 0 (omega arith), inl (zero-behind (suc i) (omega arith) (omega arith) (omega arith) (λ j below. on (suc j) (omega arith)) none))
+
+no-long : (last more : ℕ) → Long last more [] → ⊥
+no-long last more (above inside on large) = omega arith
+no-long last more (zero-behind i some few inside on none) = omega arith
+
+long-one : (last byte : ℕ) (l : List ℕ) → Long last zero (byte ∷ l) → last < byte
+long-one last byte l (above inside on large) = large
+long-one last byte l (zero-behind i some few inside on none) = absurd (omega arith)
+
+long-from : (last more : ℕ) (l : List ℕ) (at : ℕ) → (numberRefusal (numberFrom last more l at) ≡ 3) ↔ Long last more l
+unfolding numberFrom
+long-from last zero [] at = (λ h. absurd (omega arith), λ h. absurd (no-long last zero h))
+long-from last (suc more) [] at = (λ h. absurd (omega arith), λ h. absurd (no-long last (suc more) h))
+long-from last zero (byte ∷ l) at = (
+  picked (λ (r : Number). numberRefusal r ≡ 3 → Long last zero (byte ∷ l)) (leb byte last)
+      (λ e h. absurd (omega arith))
+      (λ e h. above (omega arith) (λ i below. absurd (omega arith)) (leb-false byte last e)),
+  λ h. rw (lt-leb byte last (long-one last byte l h)),
+)
+long-from last (suc more) (byte ∷ l) at =
+    let rest = long-from last more l (at + 1) in
+    let none = zero-first last more l (at + 1) in
+    let joint = joined-long byte (numberFrom last more l (at + 1)) in (
+      picked (λ (r : Number). numberRefusal r ≡ 3 → Long last (suc more) (byte ∷ l)) (ltb byte 128)
+          (λ e h. absurd (omega arith))
+          (λ e h. let high : 128 ≤ byte = ltb-false byte 128 e in
+          ⊎-elim (λ long. long-more last more byte l high (rest .0 long))
+          (λ first. let here = none .0 first in
+          zero-behind 1 (omega arith) (omega arith) (omega (arith, here .0)) (elim [ zero ↦ λ below. high | suc j ↦ λ below. absurd (omega arith) ]) (here .1))
+          (joint .0 h)),
+      λ h. let less = long-less last more byte l h in
+          rw (le-ltb byte 128 (less .0)) (joint .1 (⊎-elim (λ long. inl (rest .1 long)) (λ first. inr (none .1 first)) (less .1))),
+    )
+
+too-long : (l : List ℕ) → Long lastGroup further l → TooLong l
+too-long l (above inside on large) = tenth-byte inside on large
+too-long l (zero-behind i some few inside on none) = last-zero i some few inside on none
+
+long-too : (l : List ℕ) → TooLong l → Long lastGroup further l
+long-too l (tenth-byte inside on large) = above inside on large
+long-too l (last-zero i some few inside on none) = zero-behind i some few inside on none
+
+pub overlong-rule : OverlongRule
+unfolding numberAt
+overlong-rule s at =
+    let long = long-from lastGroup further (drop at s) at in
+    (λ h. too-long (drop at s) (long .0 h), λ h. long .1 (long-too (drop at s) h))
 
 -- ---- what five bytes hold reads as before
 

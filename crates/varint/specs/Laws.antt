@@ -25,13 +25,13 @@ pub data Groups : ℕ → List ℕ → Type 0 where
   last-byte : (byte : ℕ) → byte < 128 → Groups byte (byte ∷ [])
   goes-on : (value byte rest : ℕ) (l : List ℕ) → 128 ≤ byte → byte < 256 → value ≡ byte - 128 + 128 * rest → 1 ≤ rest → Groups rest l → Groups value (byte ∷ l)
 
--- what is written for a number is at most ten such bytes, and what is read as one is such bytes
+-- a number up to the largest has at most ten such bytes, what is written for it is such bytes, and so is what is read as one
 pub record GroupRule : Type 0 where
-  pub few : (value : ℕ) → value ≤ 18_446_744_073_709_551_615 → widthOf value ≤ 10
+  pub few : (value : ℕ) (l : List ℕ) → value ≤ 18_446_744_073_709_551_615 → Groups value l → length l ≤ 10
   pub written : (value : ℕ) → value ≤ 18_446_744_073_709_551_615 → Groups value (bytesOf value)
   pub read : (s : List ℕ) (at value next : ℕ) → Bytes s → numberAt s at ≡ Value value next → Groups value (take (next - at) (drop at s))
 
--- the bytes that a number above the largest would have are refused 3
+-- the bytes that the writer's form gives a number above the largest are refused 3
 abbrev pub ReadBeyond : Type 0
 ReadBeyond = (s rest : List ℕ) (at value : ℕ) → 18_446_744_073_709_551_615 < value → drop at s ≡ bytesOf value ++ rest → numberRefusal (numberAt s at) ≡ 3
 
@@ -46,8 +46,17 @@ CutRule =
     (s : List ℕ) (at : ℕ)
     → (numberRefusal (numberAt s at) ≡ 2) ↔ ((length (drop at s) < 10) × ((i : ℕ) → i < length (drop at s) → 128 ≤ getD (drop at s) i 0))
 
--- request 2.10, old numbers read as before: the number that document 01's five bytes gave is read, at its value and its place, and of all that are read
--- it is the one of 32 bits; what was cut is cut, and of all that is cut it is what has fewer than five bytes
+-- nine bytes go on, and a tenth is above 01; or a byte is 00 behind at least one other, one of the first ten, and all before it go on
+pub data TooLong (l : List ℕ) : Type 0 where
+  tenth-byte : 9 < length l → ((i : ℕ) → i < 9 → 128 ≤ getD l i 0) → 1 < getD l 9 0 → TooLong l
+  last-zero : (i : ℕ) → 1 ≤ i → i ≤ 9 → i < length l → ((j : ℕ) → j < i → 128 ≤ getD l j 0) → getD l i 0 ≡ 0 → TooLong l
+
+-- a number is refused 3 exactly when it is so
+abbrev pub OverlongRule : Type 0
+OverlongRule = (s : List ℕ) (at : ℕ) → (numberRefusal (numberAt s at) ≡ 3) ↔ TooLong (drop at s)
+
+-- request 2.10, old numbers read as before. A number that document 01 read is read alike, value and place: these are the ones that read and are at most
+-- 4,294,967,295. What it refused 2 is refused 2: it is what is cut with fewer than five bytes left
 pub record OldNumber (s : List ℕ) (at : ℕ) : Type 0 where
   pub reads : (value next : ℕ) → (oldNumberAt s at ≡ Value value next) ↔ ((numberAt s at ≡ Value value next) × (value ≤ 4_294_967_295))
   pub cut : (numberRefusal (oldNumberAt s at) ≡ 2) ↔ ((numberRefusal (numberAt s at) ≡ 2) × (length (drop at s) < 5))

@@ -4,7 +4,7 @@ use mathlib.Core.Bool.{cond}
 use mathlib.Core.List.{List, [], _∷_, _++_}
 use lib.ListN.{length, take, drop}
 use lib.Dec.{leb, ltb, eqb}
-use Rattle.varint.specs.Reading.{largest}
+use Rattle.varint.specs.Reading.{further, largest}
 use Rattle.varint.specs.declared.Written.{Written}
 use Rattle.varint.specs.declared.Written.the-variants.{Next, Beyond, NoRoom}
 
@@ -15,13 +15,9 @@ unfoldable pub groupsOf : ℕ → ℕ → List ℕ
 groupsOf zero value = value ∷ []
 groupsOf (suc more) value = cond (ltb value 128) (value ∷ []) ((value % 128 + 128) ∷ groupsOf more (value / 128))
 
--- the most groups behind the first of a 64-bit number
-abbrev pub widest : ℕ
-widest = 9
-
--- the shortest form of any 64-bit number; one above it is never written
+-- the shortest form of a number of 64 bits; a larger one is never written
 unfoldable pub bytesOf : ℕ → List ℕ
-bytesOf value = groupsOf widest value
+bytesOf value = groupsOf further value
 
 -- how many bytes that is
 abbrev pub widthOf : ℕ → ℕ

@@ -1,4 +1,4 @@
--- `dump::writing::record_width` meets its contract: a record has at most 80 bytes, so no refusal comes.
+-- `dump::writing::record_width` meets its contract: a record has at most 140 bytes, so no refusal comes.
 use borrow.Author.Needs.{needs}
 use mathlib.Core.Path.{_≡_, sym, _∙_}
 use Prim.Native.Nat.{ℕ}
@@ -6,7 +6,7 @@ use native.Mathlib.Omega.{arith}
 use lib.ListN.{length, replicate}
 use Rattle.dump.proofs.RecordSteps.{typed}
 use Rattle.record.specs.declared.writer.Recorded.the-variants.{Length}
-use Rattle.record.specs.Writing.{callBytes, longest}
+use Rattle.record.specs.Writing.{callBytes}
 use Rattle.record.proofs.Length.{at-most}
 use Rattle.record.proofs.WrittenLaws.{written-whole}
 use Rattle.dump.proofs.writing.record_width.Statement.{statement}
@@ -23,7 +23,7 @@ written : (c : tie.After-write) → c .write .result ≡ Length (length (callByt
 written c =
     let s = c .before .before in
     let call = s .args .call in
-    c .write .ensures .0 ∙ sym (written-whole call (replicate longest 0) (s .pre) (at-most call (typed call _ (s .good .0)) (s .pre)) .0)
+    c .write .ensures .0 ∙ sym (written-whole call (replicate 140 0) (s .pre) (at-most call (typed call _ (s .good .0)) (s .pre)) .0)
 
 enum-known-n : tie.Need-enum-known-n
 enum-known-n c = search needs

@@ -155,7 +155,7 @@ groups (suc k) value fits =
 
 groups-written : (value : ℕ) → value ≤ largest → Groups value (bytesOf value)
 unfolding bytesOf
-groups-written value h = groups 9 value (omega arith)
+groups-written value h = groups further value (omega arith)
 
 groups-read : (s : List ℕ) (at value next : ℕ) → Bytes s → numberAt s at ≡ Value value next → Groups value (take (next - at) (drop at s))
 groups-read s at value next bytes e =
@@ -201,7 +201,7 @@ beyond-from (suc most) (suc k) value rest at few h =
 pub read-beyond : ReadBeyond
 unfolding numberAt bytesOf greatest
 read-beyond s rest at value h e =
-    ap (λ (l : List ℕ). numberRefusal (numberFrom lastGroup further l at)) e ∙ ap numberRefusal (beyond-from further 9 value rest at (omega arith) h)
+    ap (λ (l : List ℕ). numberRefusal (numberFrom lastGroup further l at)) e ∙ ap numberRefusal (beyond-from further further value rest at (omega arith) h)
 
 -- ---- when it is cut
 

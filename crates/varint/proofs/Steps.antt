@@ -197,3 +197,10 @@ module _ {s : List ℕ} {at value worth place more : ℕ} (passed : Passed s at 
           small = omega (arith, passed .small, part (byte % 128) 127 (omega arith));
           same = here ∙ ap (grown value worth) (further-group byte _ place more some high) ∙ joined-grown byte value worth _ (omega (arith, passed .small));
         }
+
+-- a number of one byte
+pub one-byte : (s : List ℕ) (at byte : ℕ) → at < length s → byte ≡ getD s at 0 → byte < 128 → Value byte (at + 1) ≡ numberAt s at
+one-byte s at byte inside read low =
+    let fine : overlong byte 1 further ≡ false = cases (eqb byte 0) (λ e. rw e) (λ e. rw e) in
+    let whole : byte ≡ 0 + 1 * byte = omega arith in
+    ap (λ (v : ℕ). Value v (at + 1)) whole ∙ ends (passed-none s at) byte inside read low fine

@@ -1,7 +1,7 @@
 -- The laws of a number's shortest form: how it begins, by whether the number is below 128, how long it is, and what writing it answers and leaves. From the
 -- definitions alone.
 use mathlib.Core.Path.{_≡_, refl, sym, ap, _∙_}
-use Prim.Native.Nat.{ℕ, zero, suc, _+_, _*_, _/_, _%_, _^_, _≤_, _<_}
+use Prim.Native.Nat.{ℕ, zero, suc, _+_, _-_, _*_, _/_, _%_, _^_, _≤_, _<_}
 use native.Mathlib.Omega.{arith}
 use mathlib.Core.List.{List, [], _∷_, _++_, append-assoc}
 use lib.ListN.{length, take, drop, length-append, length-drop}
@@ -9,7 +9,7 @@ use lib.Seq.{length-take-le, take-append-seam, take-at, drop-at}
 use lib.Dec.{leb, ltb}
 use borrow.Author.Tests.{lt-ltb, le-ltb, le-leb, lt-leb, ltb-true, ltb-false, leb-true, leb-false}
 use borrow.Table.Steps.{cases}
-use Rattle.varint.specs.Reading.{largest}
+use Rattle.varint.specs.Reading.{further, largest}
 use Rattle.varint.specs.Writing.{groupsOf, bytesOf, widthOf, stored, writtenRefusal, writtenAt, leftAt}
 use Rattle.varint.specs.Laws.{Stored, WriteRule, WriteRules}
 use Rattle.varint.specs.declared.Written.the-variants.{Next, Beyond, NoRoom}
@@ -49,13 +49,13 @@ groups-more (suc more) value h =
 
 pub bytes-last : (value : ℕ) → value < 128 → bytesOf value ≡ value ∷ []
 unfolding bytesOf
-bytes-last value h = groups-last 9 value h
+bytes-last value h = groups-last further value h
 
 pub bytes-step : (value : ℕ) → 128 ≤ value → value < 2 ^ 64 → bytesOf value ≡ (value % 128 + 128) ∷ bytesOf (value / 128)
 unfolding bytesOf top
 bytes-step value h fits =
-    groups-step 8 value h
-    ∙ ap (λ (l : List ℕ). (value % 128 + 128) ∷ l) (sym (groups-more 8 (value / 128) (omega arith)))
+    groups-step (further - 1) value h
+    ∙ ap (λ (l : List ℕ). (value % 128 + 128) ∷ l) (sym (groups-more (further - 1) (value / 128) (omega arith)))
 
 -- ---- how long it is
 
@@ -69,7 +69,7 @@ groups-least (suc more) value =
 
 pub width-least : (value : ℕ) → 1 ≤ widthOf value
 unfolding bytesOf
-width-least value = groups-least 9 value
+width-least value = groups-least further value
 
 -- a number that `more` groups behind the first hold takes at most one byte more than that
 groups-most : (k more value : ℕ) → value < top more → length (groupsOf k value) ≤ more + 1
@@ -99,17 +99,17 @@ groups-all (suc k) value =
 
 pub width-most : (value : ℕ) → widthOf value ≤ 10
 unfolding bytesOf
-width-most value = groups-all 9 value
+width-most value = groups-all further value
 
 -- a number of 32 bits takes at most five
 pub width-of-few : (value : ℕ) → value ≤ 4_294_967_295 → widthOf value ≤ 5
 unfolding bytesOf top
-width-of-few value h = groups-most 9 4 value (omega arith)
+width-of-few value h = groups-most further 4 value (omega arith)
 
 -- one of 64 bits whose highest bit is set takes ten
 pub width-of-many : (value : ℕ) → 9_223_372_036_854_775_808 ≤ value → widthOf value ≡ 10
 unfolding bytesOf top
-width-of-many value h = omega (arith, width-most value, groups-many 8 9 value (omega arith) (omega arith))
+width-of-many value h = omega (arith, width-most value, groups-many 8 further value (omega arith) (omega arith))
 
 -- ---- what writing a number answers and leaves, by whether it is held and has room
 

@@ -33,9 +33,23 @@ pub enum Written {
     NoRoom,
 }
 
-// The number that stands at a place of s. Group after group is read, the lowest first: `value` is what the groups before `place` make up, `worth`
-// what the lowest bit of the group at `place` is worth, and `more` how many groups may follow it.
+// The number that stands at a place of s. Most have one byte.
 pub fn read(s: &[u8], at: usize) -> Number
+    ensures { λ r. ⌜ r ≡ numberAt (now (s .entry)) at ⌝ }
+{
+    if s.len() <= at {
+        return Number::Cut;
+    }
+    let first = wide(s[at]);
+    if first < 128 {
+        return Number::Value(first, at + 1);
+    }
+    read_groups(s, at)
+}
+
+// The same of any number. Group after group is read, the lowest first: `value` is what the groups before `place` make up, `worth` what the lowest bit
+// of the group at `place` is worth, and `more` how many groups may follow it.
+fn read_groups(s: &[u8], at: usize) -> Number
     ensures { λ r. ⌜ r ≡ numberAt (now (s .entry)) at ⌝ }
 {
     let mut value: u64 = 0;

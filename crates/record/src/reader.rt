@@ -1,7 +1,7 @@
 // Reading a record: a position steps past a number, a field, a tuple or a call, and hands itself back. The first fault from the
 // left is answered, and then the value beside it is blank.
 ghost use mathlib.Core.Path.{_≡_};
-ghost use Rattle.record.specs.Reading.{noField, noTuple, noCall, readNumber, valueAt, fieldAt, tupleAt, partAt, partsAt, bodyAt, callAt};
+ghost use Rattle.record.specs.Reading.{noField, noTuple, noCall, readNumber, valueAt, fieldAt, tupleAt, partAt, partsAt, processStep, callAt};
 use crate::head::Head;
 use crate::head::head_of;
 use tuple::CAS;
@@ -185,17 +185,16 @@ impl Cursor {
         let Next::At(cursor) = next else {
             return no_call(next);
         };
-        let process = read.value;
+        cursor.body(s, read.value)
+    }
+
+    // Steps past a record's code and what follows it, unless its process is above the largest.
+    fn body(self, s: &[u8], process: u64) -> ReadCall
+        ensures { λ r. ⌜ r ≡ processStep (now (s .entry)) (self .at) process ⌝ }
+    {
         if LARGEST_PROCESS < process {
             return no_call(Next::Refused(Refusal::Beyond));
         }
-        cursor.body(s, process as u32)
-    }
-
-    // Steps past a record's code and what follows it.
-    fn body(self, s: &[u8], process: u32) -> ReadCall
-        ensures { λ r. ⌜ r ≡ bodyAt process (now (s .entry)) (self .at) ⌝ }
-    {
         let read = self.number(s);
         let next = read.next;
         let Next::At(cursor) = next else {
@@ -208,7 +207,7 @@ impl Cursor {
         if (CAS as u64) < code {
             return no_call(Next::Refused(Refusal::Unknown));
         }
-        cursor.parts(s, process, code as u32)
+        cursor.parts(s, process as u32, code as u32)
     }
 
     // Steps past the template and the entry that a call of this code has.

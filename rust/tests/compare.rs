@@ -391,6 +391,7 @@ fn odd_board(dice: &mut Dice) -> Board {
         0 => MOST_TUPLES,
         1 => MOST_TUPLES - 1,
         2 => dice.below(MOST_TUPLES as u64 + 1) as usize,
+        _ if dice.one_in(12) => dice.below(2) as usize,
         _ => dice.below(48) as usize,
     };
     let proposals = if dice.one_in(2) { odd_proposals(dice, &config) } else { Vec::new() };

@@ -162,7 +162,7 @@ impl Run {
 
     /// At the end of the run: boards beside its last one.
     fn dump_beside(&self, dice: &mut Dice, counts: &mut Counts) {
-        for _ in 0..5 {
+        for _ in 0..10 {
             _ = counts.misses.note(&near_miss(dice, &self.board));
         }
     }

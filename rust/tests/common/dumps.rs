@@ -288,7 +288,8 @@ fn change_value(dice: &mut Dice, tuple: &mut Tuple) {
     let value = match dice.below(8) {
         0..=2 => field.value.saturating_sub(1 + dice.below(2)),
         3 | 4 => field.value.saturating_add(1 + dice.below(2)),
-        5 => field.value ^ 1 << dice.pick(&[0, 1, 2, 3, 32, 63]),
+        5 if field.kind == Kind::Count as u32 => field.value ^ 1 << dice.pick(&[0, 1, 2, 3, 32, 63]),
+        5 => field.value ^ 1 << dice.below(4),
         _ => dice.pick(&VALUES),
     };
     field.value = if dice.one_in(4) { value } else { value.min(last) };

@@ -41,14 +41,12 @@ impl Kind {
         Kind::ALL.into_iter().find(|kind| *kind as u64 == number)
     }
 
+    /// The largest values of the kinds, by their numbers; 0 is no kind's.
+    const LAST: [u64; 5] = [0, 255, u64::MAX, Offset::LAST, (1 << MOST_SEATS) - 1];
+
     /// The largest value (for an offset, travelling number) of this kind.
     pub const fn last(self) -> u64 {
-        match self {
-            Kind::Word => 255,
-            Kind::Count => u64::MAX,
-            Kind::Offset => Offset::LAST,
-            Kind::Seats => (1 << MOST_SEATS) - 1,
-        }
+        Kind::LAST[self as usize]
     }
 
     /// The letter that stands for this kind in text.

@@ -1,7 +1,7 @@
-//! The shared offset board of document 01 with requests 2.1 to 2.4 and 2.6 to
-//! 2.10 of document 02, read independently and written plainly: safe Rust, std only.
-//! Records and matching lie below policies and board, which lie below the seat
-//! procedure and the program.
+//! The shared offset board of document 01 with requests 2.1 to 2.10 of document
+//! 02, read independently and written plainly: safe Rust, std only. Records and
+//! matching lie below policies and board, which lie below the seat procedure and
+//! the program.
 //!
 //! `sys` and `flat` stand apart: they reach the proved library, for the tests
 //! that compare the two (tests/compare.rs, numbers.rs, lists.rs and together.rs)

@@ -1,5 +1,5 @@
 //! Numbers in groups of seven bits, and the travelling number of an offset
-//! (01, "Bytes", and 02, 2.10).
+//! (01, "Bytes", and 02, 2.5 and 2.10).
 
 use crate::refusal::Refusal;
 
@@ -9,27 +9,22 @@ pub const LONGEST_NUMBER: usize = 10;
 /// The tenth byte of a number may be at most this.
 const LAST_TENTH: u8 = 0x01;
 
-/// Reads the number at the front of `bytes`; answers it and how many bytes it took.
+/// Reads the number at the front of `bytes`; answers it and how many bytes it
+/// took. Each byte has seven bits of it, the lowest first, and a top bit that
+/// tells whether another follows.
 pub fn read_number(bytes: &[u8]) -> Result<(u64, usize), Refusal> {
-    read_group(bytes, 1)
-}
-
-/// The rule as it reads: the low seven bits of the first byte, plus 128 times
-/// the number that follows if the top bit is set. `place` counts from 1.
-fn read_group(bytes: &[u8], place: usize) -> Result<(u64, usize), Refusal> {
-    let (&first, rest) = bytes.split_first().ok_or(Refusal::Ended)?;
-    if place == LONGEST_NUMBER && first > LAST_TENTH {
-        return Err(Refusal::Value);
+    let mut value = 0;
+    for (place, &byte) in bytes.iter().enumerate() {
+        if place + 1 == LONGEST_NUMBER && byte > LAST_TENTH {
+            return Err(Refusal::Value);
+        }
+        value |= u64::from(byte & 0x7F) << (7 * place);
+        if byte & 0x80 == 0 {
+            let shortest = byte != 0 || place == 0;
+            return if shortest { Ok((value, place + 1)) } else { Err(Refusal::Value) };
+        }
     }
-    let low = u64::from(first & 0x7F);
-    if first & 0x80 != 0 {
-        let (high, taken) = read_group(rest, place + 1)?;
-        Ok((low + 128 * high, taken + 1))
-    } else if first == 0 && place > 1 {
-        Err(Refusal::Value)
-    } else {
-        Ok((low, 1))
-    }
+    Err(Refusal::Ended)
 }
 
 /// Appends the shortest writing of `value`.

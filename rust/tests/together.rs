@@ -13,6 +13,7 @@ use common::announced::{Came, Helping};
 use common::denials::{Cause, Denials};
 use common::dumps::{near_miss, Dumps};
 use common::lists::{self, Race};
+use common::long::{Long, Part};
 use common::reached::Flaw;
 use common::wide::Wide;
 use common::*;
@@ -54,6 +55,7 @@ struct Counts {
     full: usize,
     denials: Denials,
     wide: Wide,
+    long: Long,
     /// The runs' boards written back, and boards beside them.
     dumps: Dumps,
     misses: Dumps,
@@ -125,6 +127,7 @@ impl Run {
         let answer = compare_call(&mut self.board, call);
         counts.denials.note(&before, call, &answer);
         counts.wide.note(&before, call, &answer);
+        counts.long.note(&before, call, &answer);
         counts.calls += 1;
         if let Ok(record) = record_of(call) {
             self.script.extend(record);
@@ -537,6 +540,8 @@ fn runs_under_policy_4() {
     let Counts { calls, scripts, refused, .. } = counts;
     println!("compared {calls:>7} calls of {} runs under policy 4: {refused} refused", runs.len());
     counts.denials.print();
+    counts.long.print();
+    counts.long.assert_came(LIST, &[(Part::Serial, [1_000, 500, 1_000])]);
     println!("         {filled:>7} positions filled, all 112 in {whole} runs; {met} readings and {sums} sums met others");
     println!("compared {scripts:>7} scripts of these runs, whole, damaged, into short buffers");
     counts.print_dumps();
@@ -558,6 +563,8 @@ fn runs_under_policy_5() {
     let Counts { calls, scripts, refused, .. } = counts;
     println!("compared {calls:>7} calls of 120 runs under policy 5: {refused} refused");
     counts.denials.print();
+    counts.long.print();
+    counts.long.assert_came(WAIT_FREE, &[(Part::Serial, [1_000, 500, 1_000])]);
     came.print();
     println!("compared {scripts:>7} scripts of these runs, whole, damaged, into short buffers");
     counts.print_dumps();

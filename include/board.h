@@ -119,8 +119,7 @@ static inline const char *board_refusal_text(uint64_t refusal) {
     case 0: return "not refused";
     case 1: return "the set-up is not sound, or the board or the seat's state that was handed in is not well formed; of a start, the policy is not 2 or 3";
     case 2: return "the bytes end inside a number or a record";
-    case 3: return "a number is too long or not shortest, the seat of a record is above 4,294,967,295, or a value is beyond its kind; "
-                   "of a start, the round is above 7 or the offset may not be proposed";
+    case 3: return "a number is too long or not shortest, or a record's seat or a value is beyond its bound; of a start, the round is above 7 or the offset may not be proposed";
     case 4: return "the call, or the kind or state of a field, is unknown";
     case 5: return "a tuple has no field or more than six, an entry has a field that is not given, or an unused part is not zero";
     case 6: return "the seat is 0 or above n";

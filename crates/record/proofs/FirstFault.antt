@@ -2,7 +2,7 @@
 use mathlib.Core.Path.{_≡_, ap}
 use Prim.Native.Nat.{ℕ, zero, suc, _≤_, _<_}
 use native.Mathlib.Omega.{arith}
-use mathlib.Core.Bool.{Bool, true, false, _&&_}
+use mathlib.Core.Bool.{Bool, true, false, cond, _&&_}
 use mathlib.Core.List.{List}
 use lib.Dec.{leb}
 use borrow.Author.Tests.{le-leb, lt-leb, ne-eqb}
@@ -15,7 +15,7 @@ use Rattle.record.specs.FirstFault.FieldStops.{head-unread, unknown-head
 use Rattle.record.specs.FirstFault.Past.{none, more}
 use Rattle.record.specs.FirstFault.TupleStops.{count-unread, miscounted, at-field}
 use Rattle.record.specs.FirstFault.CallStops.{process-unread, process-beyond, code-unread, unknown-code, in-template, in-entry-of-out, in-entry-of-cas}
-use Rattle.record.specs.Reading.{place, numberStep, readNumber, valueAt, fieldAt, fieldsAt, tupleAt, partAt, partsAt, isCode, bodyAt, callAt}
+use Rattle.record.specs.Reading.{place, refused, noCall, numberStep, readNumber, valueAt, fieldAt, fieldsAt, tupleAt, partAt, partsAt, isCode, codeStep, bodyAt, processStep, callAt}
 use Rattle.tuple.specs.Bounds.{largestProcess, largestWord, largestCode, largestSet}
 use Rattle.tuple.specs.Faults.{usesTemplate, usesEntry}
 use Rattle.tuple.specs.Fields.{largestOf, blankField, blankTuple, blankCall}
@@ -82,10 +82,15 @@ module _ (s : List ℕ) where
   call-stops : (at r : ℕ) → CallStops s at r → callAt s at ≡ record { next = Refused (refusal r); call = blankCall }
   unfolding callAt bodyAt partsAt partAt usesTemplate usesEntry
   call-stops at r (process-unread q why) = rw (number-stops at q why)
-  call-stops at r (process-beyond process next e above) = rw (number-read at process next e, lt-leb process largestProcess above)
+  call-stops at r (process-beyond process next e above) =
+      let three : processStep s next process ≡ noCall (refused 3) =
+      ap (λ (t : Bool). cond t (bodyAt process s next) (noCall (refused 3))) (lt-leb process largestProcess above) in
+      rw (number-read at process next e) three
   call-stops at r (code-unread process next q e small why) = rw (number-read at process next e, le-leb process largestProcess small, number-stops next q why)
   call-stops at r (unknown-code code next coded never) =
-      rw (number-read at _ _ (coded .first), le-leb _ largestProcess (coded .small), number-read (coded .behind) code next (coded .second), unknown code never)
+      let four : codeStep (coded .process) s next code ≡ noCall (refused 4) =
+      ap (λ (t : Bool). cond t (partsAt (coded .process) code s next) (noCall (refused 4))) (unknown code never) in
+      rw (number-read at _ _ (coded .first), le-leb _ largestProcess (coded .small), number-read (coded .behind) code next (coded .second)) four
   call-stops at r (in-template code next q coded low high why) =
       rw (
         number-read at _ _ (coded .first),

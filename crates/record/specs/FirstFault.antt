@@ -1,5 +1,5 @@
--- Document 01, "What is returned, and for what", and document 02, 2.10: reading goes left to right and the first fault is returned. Each fault that reading can meet, in 01's
--- numbers, by what was read before it; nothing is asked of the bytes behind it. `FirstFaults` is the claim.
+-- Document 01, "What is returned, and for what", and document 02, 2.10: reading goes left to right and the first fault is returned. Each fault that reading can
+-- meet, in 01's numbers, by what was read before it; nothing is asked of the bytes behind it. `FirstFaults` is the claim.
 use mathlib.Core.Path.{_≡_}
 use mathlib.Core.Bool.{Bool, true, false}
 use Prim.Native.Nat.{ℕ, suc, _≤_, _<_}

@@ -1,5 +1,6 @@
 -- Document 01, "Fields and tuples", "Bytes" and "What is returned, and for what", rows 3 to 5, with the bounds of document 02, 2.8 and 2.10: when a call that
--- is handed in has no fault, and which of its faults comes first, in the documents' words and numbers. `FaultRules` is the claim, and `EntryRules` of the tuples that a space holds.
+-- is handed in has no fault, and which of its faults comes first, in the documents' words and numbers. `FaultRules` is the claim, and `EntryRules` of the
+-- tuples that a space holds.
 use mathlib.Core.Path.{_≡_}
 use mathlib.Core.Bool.{Bool, true, false}
 use mathlib.Core.Logic.{_↔_}

@@ -1,4 +1,6 @@
 // The text of the script on standard input, on standard output.
+#![tactic(auto)]
+
 use libc::{STDIN_FILENO, STDOUT_FILENO};
 use script::Printed;
 

@@ -1,5 +1,7 @@
 // The library for C and Rust: a whole script, the space, the process and the record one by one, and a space back as a script. Structs go by
 // value, and a number stands for each case of an enum.
+#![tactic(auto)]
+
 ghost use Rattle.std.specs.Prelude.{◌≡◌, length};
 ghost use Rattle.board_c.specs.Flat.{scripted, opened, applied as applied·, started as started·, resumed as resumed·, read_at, written, dumped, strayed};
 ghost use Rattle.dump.specs.Dumps.{left_of as dump_left};

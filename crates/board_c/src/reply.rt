@@ -12,7 +12,7 @@ use tuple::{Call, Outcome, Refusal, Reply, Tuple};
 // A reply: the outcome's number (0 done, 1 none, 2 found, 3 inserted, 4 held, 5 refused), the refusal's number, 0 where there is none,
 // and the tuple.
 #[repr(C)]
-#[derive(Drop)]
+#[derive(Clone, Copy)]
 pub struct FlatReply {
     pub outcome: u32,
     pub refusal: u32,
@@ -21,7 +21,7 @@ pub struct FlatReply {
 
 // A fresh space, and 0; or the refusal's number beside a blank one.
 #[repr(C)]
-#[derive(Drop)]
+#[derive(Clone, Copy)]
 pub struct FlatOpened {
     pub refusal: u64,
     pub space: Space,
@@ -29,7 +29,7 @@ pub struct FlatOpened {
 
 // What a call on a space answers, and the space afterwards.
 #[repr(C)]
-#[derive(Drop)]
+#[derive(Clone, Copy)]
 pub struct FlatApplied {
     pub reply: FlatReply,
     pub space: Space,
@@ -37,7 +37,7 @@ pub struct FlatApplied {
 
 // A call and the place behind it, and 0; or the refusal's number beside place 0 and a blank call.
 #[repr(C)]
-#[derive(Drop)]
+#[derive(Clone, Copy)]
 pub struct FlatRead {
     pub refusal: u64,
     pub next: usize,

@@ -9,7 +9,7 @@ use tuple::{Call, Offset, Refusal};
 // A process's state: the phase's number (0 proposing, 1 reading, 2 deciding, 3 decided), and beside it the process asked (1) or the
 // code of the decision (3), 0 where there is none.
 #[repr(C)]
-#[derive(Drop)]
+#[derive(Clone, Copy)]
 pub struct FlatProcess {
     pub config: Config,
     pub process: u32,
@@ -22,7 +22,7 @@ pub struct FlatProcess {
 // What comes next (0 calls, 1 decides, 2 refused), the refusal's number, the decision as a flag for bottom and hundredths, the state
 // then, and the call. What there is none of is 0.
 #[repr(C)]
-#[derive(Drop)]
+#[derive(Clone, Copy)]
 pub struct FlatStep {
     pub next: u32,
     pub refusal: u32,

@@ -6,7 +6,7 @@ ghost use Rattle.tuple.specs.Bounds.{capacity};
 use space::{Space, enter};
 use tuple::{TUPLES, Tuple};
 
-#[derive(Drop)]
+#[derive(Clone, Copy)]
 pub enum Change {
     // The tuples stay as they are.
     Keep,

@@ -8,7 +8,7 @@ use space::Space;
 use tuple::{Call, Found, INP, OUT, Outcome, RDP, Refusal, Reply, TUPLES, Tuple};
 
 // The reply to a call, and what becomes of the tuples.
-#[derive(Drop)]
+#[derive(Clone, Copy)]
 pub struct Effect {
     pub reply: Reply,
     pub change: Change,

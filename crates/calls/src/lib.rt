@@ -1,4 +1,6 @@
 // Calls on a tuple space: what a call does, the refusals in their order, and the space afterwards.
+#![tactic(auto)]
+
 mod change;
 mod effect;
 mod turn;

@@ -11,7 +11,7 @@ use space::{Config, PLACES, Space, is_bounded};
 use tuple::{Call, Fault, Refusal, Reply};
 
 // What a call on a space answers, and the space afterwards.
-#[derive(Drop)]
+#[derive(Clone, Copy)]
 pub struct Applied {
     pub reply: Reply,
     pub space: Space,

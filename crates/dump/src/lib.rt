@@ -1,4 +1,6 @@
 // A space written as a script: the set-up, and behind it a record for each tuple, whose run ends in that space.
+#![tactic(auto)]
+
 mod appending;
 mod reaching;
 mod tabling;

@@ -1,5 +1,7 @@
 // The worked script and the unstarred edge values of document 01, a weak round of document 02, and spaces handed in, made as calls, one labelled
 // line each.
+#![tactic(auto)]
+
 mod asking;
 mod cases;
 mod lines;

@@ -22,7 +22,7 @@ use tuple::{Call, Reply};
 const PLACES: usize = PROCESSES + 1;
 
 // Whether a call was due, and what is kept then.
-#[derive(Drop)]
+#[derive(Clone, Copy)]
 pub(crate) struct Watched {
     pub due: bool,
     pub tracked: Tracked,

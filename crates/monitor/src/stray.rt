@@ -9,7 +9,7 @@ use space::within;
 use tuple::Refusal;
 
 // What is found of a set of processes in a script.
-#[derive(Drop)]
+#[derive(Clone, Copy)]
 pub enum Stray {
     // All of them follow the procedure.
     Nobody,

@@ -15,7 +15,7 @@ use tuple::{Call, Decoded, Offset, Reply, Tuple, all_three, same_call};
 // As many as there are rounds.
 const BEGUN: usize = ROUNDS as usize;
 
-#[derive(Drop)]
+#[derive(Clone, Copy)]
 pub(crate) enum Stage {
     // Between rounds.
     Between,
@@ -25,7 +25,7 @@ pub(crate) enum Stage {
     Stuck,
 }
 
-#[derive(Drop)]
+#[derive(Clone, Copy)]
 pub(crate) struct Tracked {
     // 1 for each round begun.
     pub begun: [u64; BEGUN],

@@ -1,4 +1,6 @@
 // The access policies: the shapes of decisions, what each policy says of a call, and the verdict by the policy's number.
+#![tactic(auto)]
+
 mod default;
 mod justified;
 mod listing;

@@ -1,7 +1,7 @@
 // What a policy says of a call.
 use tuple::Refusal;
 
-#[derive(Drop)]
+#[derive(Clone, Copy)]
 pub enum Verdict {
     Permit,
     Refuse(Refusal),

@@ -1,4 +1,6 @@
 // The procedure of a correct process (01's following seat): starting it, and handing it a reply.
+#![tactic(auto)]
+
 mod call;
 mod fit;
 mod procedure;

@@ -8,7 +8,7 @@ use space::{Config, PROCESSES, ROUNDS, decidable, offered};
 use tuple::{Call, Offset, Refusal};
 
 // What the process waits for.
-#[derive(Drop)]
+#[derive(Clone, Copy)]
 pub enum Phase {
     // The reply to its out.
     Proposing,
@@ -22,7 +22,7 @@ pub enum Phase {
 
 // A process's state (01's seat state). At place k - 1 of what it has found stands the code of the offset that process k was found
 // to have proposed, 0 while it is not found. All places are 0 before it reads and after it has decided.
-#[derive(Drop)]
+#[derive(Clone, Copy)]
 pub struct Process {
     pub config: Config,
     pub process: u32,
@@ -32,7 +32,7 @@ pub struct Process {
 }
 
 // What starting a process, or handing it a reply, gives.
-#[derive(Drop)]
+#[derive(Clone, Copy)]
 pub enum Next {
     // The call beside it.
     Calls,
@@ -42,7 +42,7 @@ pub enum Next {
 }
 
 // What comes next, the state then, and the call if there is one; it is blank where there is none.
-#[derive(Drop)]
+#[derive(Clone, Copy)]
 pub struct Step {
     pub next: Next,
     pub process: Process,

@@ -4,7 +4,7 @@ ghost use Rattle.record.specs.Heads.{head_of};
 
 use tuple::{COUNT, DEFINED, FORMAL, OFFSET, PROCESS_SET, WILDCARD, WORD};
 
-#[derive(Drop)]
+#[derive(Clone, Copy)]
 pub(crate) enum Head {
     // A kind and a state.
     Known(u32, u32),

@@ -1,4 +1,6 @@
 // A call as bytes: the reader, which takes a record's only form, and the writer of that form.
+#![tactic(auto)]
+
 mod head;
 mod reader;
 mod writer;

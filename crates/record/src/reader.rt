@@ -8,37 +8,37 @@ use tuple::{CAS, Call, DEFINED, FIELDS, Field, LARGEST_PROCESS, OUT, Refusal, Tu
 use varint::Number;
 
 // A reading position: how many bytes stand before it.
-#[derive(Drop)]
+#[derive(Clone, Copy)]
 pub struct Cursor {
     pub at: usize,
 }
 
 // What reading answers beside the value: the position behind it, or the refusal.
-#[derive(Drop)]
+#[derive(Clone, Copy)]
 pub enum Next {
     At(Cursor),
     Refused(Refusal),
 }
 
-#[derive(Drop)]
+#[derive(Clone, Copy)]
 pub struct ReadNumber {
     pub next: Next,
     pub value: u64,
 }
 
-#[derive(Drop)]
+#[derive(Clone, Copy)]
 pub struct ReadField {
     pub next: Next,
     pub field: Field,
 }
 
-#[derive(Drop)]
+#[derive(Clone, Copy)]
 pub struct ReadTuple {
     pub next: Next,
     pub tuple: Tuple,
 }
 
-#[derive(Drop)]
+#[derive(Clone, Copy)]
 pub struct ReadCall {
     pub next: Next,
     pub call: Call,

@@ -11,7 +11,7 @@ use tuple::{Call, DEFINED, Fault, Field, Refusal, Tuple};
 use varint::Written;
 
 // What writing a record answers.
-#[derive(Drop)]
+#[derive(Clone, Copy)]
 pub enum Recorded {
     // How many bytes it has.
     Length(usize),

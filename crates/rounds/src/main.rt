@@ -1,4 +1,6 @@
 // Rounds of correct processes over one space, faulty ones among them: each call, its reply and each decision on a line.
+#![tactic(auto)]
+
 mod cases;
 mod lines;
 mod schedule;

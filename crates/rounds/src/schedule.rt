@@ -10,14 +10,14 @@ use tuple::Call;
 pub(crate) const PASSES: u32 = PROCESSES as u32 + 2;
 
 // The space, and what each process's state last gave: the call that it makes next, its decision, or a refusal.
-#[derive(Drop)]
+#[derive(Clone, Copy)]
 pub(crate) struct Round {
     pub space: Space,
     pub steps: [Step; PROCESSES],
 }
 
 // What a process's state gave in its turn, and the space then.
-#[derive(Drop)]
+#[derive(Clone, Copy)]
 struct Turn {
     space: Space,
     step: Step,

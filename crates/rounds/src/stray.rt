@@ -3,7 +3,7 @@
 use tuple::{CAS, Call, DECISION_ENTRY, DECISION_TEMPLATE, OUT, PROPOSAL, Tuple, make};
 
 // Which faulty processes there are in a case.
-#[derive(Drop)]
+#[derive(Clone, Copy)]
 pub(crate) enum Strays {
     Nobody,
     // Process 4 among correct ones, under policy 2.

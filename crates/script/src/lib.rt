@@ -1,4 +1,6 @@
 // A whole script into text: its set-up, its records to its end, and a line for each of them.
+#![tactic(auto)]
+
 mod line;
 mod owned;
 mod records;

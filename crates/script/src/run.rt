@@ -12,7 +12,7 @@ use text::put_refused;
 use tuple::Refusal;
 
 // What printing a script answers.
-#[derive(Drop)]
+#[derive(Clone, Copy)]
 pub enum Printed {
     // How many bytes the text has.
     Length(usize),

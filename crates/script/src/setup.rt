@@ -9,7 +9,7 @@ use space::Config;
 use tuple::Refusal;
 
 // The position behind the set-up, or the refusal, and the configuration, blank beside a refusal.
-#[derive(Drop)]
+#[derive(Clone, Copy)]
 pub struct ReadConfig {
     pub next: Next,
     pub config: Config,

@@ -9,7 +9,7 @@ use tuple::Call;
 
 // The position behind the record, or the refusal of one that can't be read; the call, blank beside a refusal; and the reply with what
 // becomes of the tuples.
-#[derive(Drop)]
+#[derive(Clone, Copy)]
 pub struct Stepped {
     pub next: Next,
     pub call: Call,

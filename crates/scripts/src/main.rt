@@ -1,4 +1,6 @@
 // Runs the scripts of the list in data/, then each cut of a record, then scripts of the greatest lengths, and prints the text of each.
+#![tactic(auto)]
+
 mod case;
 mod hex;
 mod made;

@@ -8,7 +8,7 @@ use crate::space::Space;
 use tuple::{ANNOUNCEMENT, BOTTOM, TUPLES, Tuple, has_shape, least};
 
 // What a process has announced, or what of it is owed.
-#[derive(Drop)]
+#[derive(Clone, Copy)]
 pub enum Announced {
     // A serial, and the code of a shift.
     Shift(u64, u64),

@@ -6,7 +6,7 @@ ghost use Rattle.space.specs.Configs.{sound, choice_sound, plain_sound, has_prop
 use crate::bounds::{FEWEST_CHOICES, LAST_POLICY, MOST_CHOICES, PROCESSES};
 
 #[repr(C)]
-#[derive(Drop)]
+#[derive(Clone, Copy)]
 pub struct Config {
     pub n: u64,
     pub t: u64,

@@ -1,5 +1,7 @@
 // The tuple space: its bounds and configuration, sets of processes, what may be proposed and who has proposed what, what the shared list holds, who has
 // announced what, and the record with its test and a fresh one.
+#![tactic(auto)]
+
 mod announcement;
 mod bounds;
 mod config;

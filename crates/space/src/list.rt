@@ -7,7 +7,7 @@ use crate::space::Space;
 use tuple::{LIST_TUPLE, TUPLES, Tuple, has_shape, least};
 
 // Which list tuples are looked for.
-#[derive(Drop)]
+#[derive(Clone, Copy)]
 enum Wanted {
     // Those of this position.
     Position(u64),

@@ -13,7 +13,7 @@ use crate::space::Space;
 use tuple::{BOTTOM, LARGEST_CODE, TUPLES, Tuple, all_three, least};
 
 // Which proposals are looked for.
-#[derive(Drop)]
+#[derive(Clone, Copy)]
 pub enum Sought {
     // Those of this offset.
     One(u64),

@@ -10,7 +10,7 @@ use crate::table::{enter, fits_table, same_table};
 use tuple::{Refusal, TUPLES, Tuple};
 
 #[repr(C)]
-#[derive(Drop)]
+#[derive(Clone, Copy)]
 pub struct Space {
     pub config: Config,
     pub count: usize,
@@ -20,13 +20,13 @@ pub struct Space {
 }
 
 // Whether a fresh space stands.
-#[derive(Drop)]
+#[derive(Clone, Copy)]
 pub enum Opening {
     Stands,
     Unopened(Refusal),
 }
 
-#[derive(Drop)]
+#[derive(Clone, Copy)]
 pub struct Opened {
     pub opening: Opening,
     pub space: Space,

@@ -9,7 +9,7 @@ use crate::field::{
 };
 use crate::refusal::Refusal;
 
-#[derive(Drop)]
+#[derive(Clone, Copy)]
 pub enum Fault {
     Absent,
     Present(Refusal),

@@ -1,4 +1,6 @@
 // Fields, tuples and calls as values: what they may hold, how offsets are coded, what is wrong with a call, and matching.
+#![tactic(auto)]
+
 mod bounds;
 mod equality;
 mod fault;

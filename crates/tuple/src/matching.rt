@@ -6,14 +6,14 @@ use crate::bounds::{FIELDS, TUPLES};
 use crate::field::{DEFINED, Field, Tuple};
 
 // Where a matching tuple stands.
-#[derive(Drop)]
+#[derive(Clone, Copy)]
 pub enum Found {
     At(usize),
     Nowhere,
 }
 
 // That place and the tuple there, blank if none matches.
-#[derive(Drop)]
+#[derive(Clone, Copy)]
 pub struct Matched {
     pub found: Found,
     pub tuple: Tuple,

@@ -9,21 +9,21 @@ use crate::refusal::Refusal;
 pub const BOTTOM: u64 = 0;
 
 // An offset: bottom (01's default mark), or hundredths of a needle space.
-#[derive(Drop)]
+#[derive(Clone, Copy)]
 pub enum Offset {
     Bottom,
     Hundredths(i32),
 }
 
 // What coding an offset answers.
-#[derive(Drop)]
+#[derive(Clone, Copy)]
 pub enum Coded {
     Code(u64),
     OutOfRange(Refusal),
 }
 
 // What decoding a number answers.
-#[derive(Drop)]
+#[derive(Clone, Copy)]
 pub enum Decoded {
     Means(Offset),
     NoOffset(Refusal),

@@ -3,7 +3,7 @@ use crate::field::Tuple;
 use crate::refusal::Refusal;
 
 // How a call ended, in 01's words.
-#[derive(Drop)]
+#[derive(Clone, Copy)]
 pub enum Outcome {
     Done,
     None,
@@ -14,7 +14,7 @@ pub enum Outcome {
 }
 
 // An outcome, and the tuple that was found or is held; it is blank where there is none.
-#[derive(Drop)]
+#[derive(Clone, Copy)]
 pub struct Reply {
     pub outcome: Outcome,
     pub tuple: Tuple,

@@ -8,14 +8,14 @@ use crate::field::{COUNT, DEFINED, FORMAL, Field, Tuple, WILDCARD, WORD};
 pub(crate) const UNDEFINED: u32 = 3;
 
 // A place of a shape: the kind and the state of its field. A place of kind 0 is none, and asks nothing.
-#[derive(Drop)]
+#[derive(Clone, Copy)]
 pub struct Place {
     pub kind: u32,
     pub state: u32,
 }
 
 // (word, count, and up to three fields more), the first two defined
-#[derive(Drop)]
+#[derive(Clone, Copy)]
 pub struct Shape {
     pub count: usize,
     pub word: u64,

@@ -1,4 +1,6 @@
 // Numbers in groups of seven bits, the lowest group first: a reader that takes the shortest form alone, and a writer of that form.
+#![tactic(auto)]
+
 ghost use Rattle.std.specs.Prelude.{◌≡◌, cond, ◌&&◌, ◌+◌, ◌≤◌, length, ltb, eqb};
 ghost use Rattle.varint.specs.Reading.{further, last_group, number_at};
 ghost use Rattle.varint.specs.Writing.{bytes_of, width_of, stored, written_at, left_at};
@@ -10,7 +12,7 @@ pub const GROUPS: usize = 10;
 pub const LAST_GROUP: u64 = 0x01;
 
 // What reading a number answers.
-#[derive(Drop)]
+#[derive(Clone, Copy)]
 pub enum Number {
     // The number, and the place behind its last byte.
     Value(u64, usize),
@@ -21,7 +23,7 @@ pub enum Number {
 }
 
 // What writing a number answers.
-#[derive(Drop)]
+#[derive(Clone, Copy)]
 pub enum Written {
     // The place behind its last byte.
     Next(usize),

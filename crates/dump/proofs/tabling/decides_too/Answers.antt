@@ -1,0 +1,23 @@
+-- `dump::tabling::decides_too` meets its contract: its tests are the definition's, and a tuple that does not say it is a decision has no shape of one.
+use mathlib.Core.Path.{sym, ◌∙◌}
+use borrow.Author.Tests.{eq-eqb, ne_eqb}
+use Rattle.dump.specs.Private.{decides_too}
+use Rattle.dump.proofs.DecisionSteps.{undecided}
+use Rattle.dump.proofs.tabling.decides_too.Goals as goal
+
+pub returns-then-asked-round : goal.returns-then-asked-round
+unfolding decides_too
+returns-then-asked-round c = sym (rw (ne_eqb _ _ c.if-asked-round.true))
+
+pub returns-then-word-ne-DECISION : goal.returns-then-word-ne-DECISION
+returns-then-word-ne-DECISION c = let a = c.args in sym (undecided a.tuple a.other c.if-word-ne-DECISION.true)
+
+pub returns-then-tuple-eq4 : goal.returns-then-tuple-eq4
+unfolding decides_too
+returns-then-tuple-eq4 c =
+    c.has_shape.ensures ∙ sym (rw (eq-eqb _ _ c.if-asked-round.false, eq-eqb _ _ c.if-tuple-eq4.true))
+
+pub returns-else-tuple-eq4 : goal.returns-else-tuple-eq4
+unfolding decides_too
+returns-else-tuple-eq4 c =
+    c.has_shape-else-tuple-eq4.ensures ∙ sym (rw (eq-eqb _ _ c.if-asked-round.false, ne_eqb _ _ c.if-tuple-eq4.false))

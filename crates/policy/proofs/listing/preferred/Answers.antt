@@ -1,0 +1,12 @@
+-- `policy::listing::preferred` meets its contract: its tests are the definition's.
+use borrow.Author.Tests.{eq-eqb, ne_eqb}
+use Rattle.policy.specs.Listing.{preferred}
+use Rattle.policy.proofs.listing.preferred.Goals as goal
+
+pub returns-then-process-eq0 : goal.returns-then-process-eq0
+unfolding preferred
+returns-then-process-eq0 c = rw (eq-eqb _ 0 c.if-process-eq0.true)
+
+pub returns-else-process-eq0 : goal.returns-else-process-eq0
+unfolding preferred
+returns-else-process-eq0 c = rw (ne_eqb _ 0 c.if-process-eq0.false)

@@ -1,0 +1,23 @@
+-- `script::line::put_unread` meets its contract: the number, a space, and the line of the refusal, one behind the other.
+use mathlib.Core.Path.{refl, ap}
+use native.Mathlib.Omega.{arith}
+use mathlib.Core.List.{◌++◌}
+use Rattle.script.specs.Printing.{unread_of}
+use Rattle.script.specs.Texts.{unread_line}
+use Rattle.text.specs.Digits.{decimal}
+use Rattle.text.specs.Texts.{gap, refused_line}
+use Rattle.text.proofs.PlaceLaws.{wrote_then}
+use Rattle.script.proofs.line.put_unread.Goals as goal
+
+pub returns-in-At : goal.returns-in-At
+returns-in-At c = let both = rw (ap (unread_of c.args.number) c.in-At.is) (omega arith, refl) in record { value = both.0; out_after = both.1 }
+
+pub returns-in-Refused : goal.returns-in-Refused
+unfolding unread_line
+returns-in-Refused c =
+    let a = c.args in
+    let number = decimal a.number in
+    let both = rw (ap (unread_of a.number) c.in-Refused.is)
+    (wrote_then a.out.now a.at c.well_formed.0.0 (number ++ gap) (refused_line c.in-Refused.refusal)
+    (wrote_then a.out.now a.at c.well_formed.0.0 number gap c.put_number-head.ensures c.put-place.ensures)
+    c.put_refused.ensures) in record { value = both.0; out_after = both.1 }

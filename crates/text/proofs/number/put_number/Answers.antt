@@ -1,0 +1,11 @@
+-- `text::number::put_number` meets its contract: the digits that `io::decimal` makes are put.
+use mathlib.Core.Path.{◌≡◌, ◌∙◌}
+use lib.ListN.{take}
+use Rattle.text.specs.Digits.{decimal}
+use Rattle.text.proofs.DigitLaws.{fewest-decimal}
+use Rattle.text.proofs.number.put_number.Goals as goal
+
+pub returns : goal.returns
+returns c =
+    let made : take c.decimal-k.result c.decimal-k.new.1.0 ≡ decimal c.args.n = c.decimal-k.ensures.len.1 ∙ fewest-decimal _ _ c.decimal-k.ensures.len.0 in
+    let both = rw made at c.put.ensures in record { value = both.0; out_after = both.1 }

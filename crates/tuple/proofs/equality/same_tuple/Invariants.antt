@@ -1,0 +1,12 @@
+-- `tuple::equality::same_tuple` meets its contract. The loop's invariant: the fields passed are equal, so that what is left decides.
+use mathlib.Core.Path.{◌≡◌}
+use Prim.Native.Nat.{◌-◌, ◌≤◌}
+use Rattle.tuple.specs.Bounds.{places}
+use Rattle.tuple.specs.Equality.{same_fields}
+use Rattle.tuple.proofs.equality.same_tuple.Given as goal
+
+abbrev pub invariant-loop-i : goal.invariant-loop-i
+invariant-loop-i l = (l.i ≤ places) × (left l.a l.b l.i ≡ same_fields l.a.fields l.b.fields)
+
+abbrev pub decreases-loop-i : goal.decreases-loop-i
+decreases-loop-i l = places - l.i

@@ -14,9 +14,9 @@ use Rattle.tuple.specs.Bounds.{places, capacity}
 use Rattle.tuple.specs.contracts.field.Tuple.{the_type}
 
 pub six : (t : Tuple) (vs : List Val) → Is (row the_type) t vs → length t.fields ≡ places
-six t vs g = sym (length-map t.fields _) ∙ g.1.1.1.0.1.0.1
+six t vs g = g.1.1.1.0.1.0.1
 
-each-six : (ts : List Tuple) (us : List Val) → shadow (each Tuple (row the_type).own ts us) → (i : ℕ) (other : Tuple) → i < length ts
+each-six : (ts : List Tuple) (us : List Val) → shadow (each Tuple (row the_type).own_val ts us) → (i : ℕ) (other : Tuple) → i < length ts
     → length (get_or ts i other).fields ≡ places
 each-six [] us g i other h = absurd (omega arith)
 each-six (t ∷ ts) [] g i other h = absurd g

@@ -10,17 +10,9 @@ use Rattle.tuple.specs.Bounds.{places}
 use Rattle.tuple.specs.Equality.{same_fields, same_tuple}
 use Rattle.tuple.proofs.EqualityLaws.{fields-step}
 use Rattle.tuple.proofs.Lengths.{six}
-use Rattle.tuple.proofs.equality.same_tuple.Goals.{After-same_field, Else-a-b, Start}
+use Rattle.tuple.proofs.equality.same_tuple.Invariants.{left}
+use Rattle.tuple.proofs.equality.same_tuple.Goals.{After-same_field, Else-a-b}
 use Rattle.tuple.proofs.equality.same_tuple.Goals as goal
-
-abbrev left : Tuple → Tuple → ℕ → Bool
-left a b i = same_fields (drop i a.fields) (drop i b.fields)
-
-one-six : (c : Start) → length c.args.a.fields ≡ places
-one-six c = six c.args.a _ c.well_formed.0
-
-other-six : (c : Start) → length c.args.b.fields ≡ places
-other-six c = six c.args.b _ c.well_formed.1.0
 
 -- as many fields: these decide
 counted : (c : Else-a-b) → let a = c.args in same_tuple a.a a.b ≡ same_fields a.a.fields a.b.fields
@@ -32,7 +24,7 @@ step : (c : After-same_field) → let a = c.args in
     left a.a a.b c.loop-i.i ≡ c.same_field.result && left a.a a.b (c.loop-i.i + 1)
 step c =
     let a = c.args in
-    fields-step a.a.fields a.b.fields c.loop-i.i (omega (arith, c.loop-i-test.true, one-six c.before.before.before.before.before.before)) (omega (arith, c.loop-i-test.true, other-six c.before.before.before.before.before.before))
+    fields-step a.a.fields a.b.fields c.loop-i.i (omega (arith, c.loop-i-test.true, six c.args.a _ c.well_formed.0)) (omega (arith, c.loop-i-test.true, six c.args.b _ c.well_formed.1.0))
     ∙ ap (λ (test : Bool). test && left a.a a.b (c.loop-i.i + 1)) (sym c.same_field.ensures)
 
 pub returns-then-a-b : goal.returns-then-a-b
@@ -60,4 +52,4 @@ unfolding same_fields
 returns c =
     let a = c.args in
     sym (counted (goal.at.returns c).Else-a-b ∙ sym c.loop-i.invariant.1
-    ∙ rw (drop_of_length-le a.a.fields {i = c.loop-i.i} (omega (arith, c.loop-i-test.false, one-six (goal.at.returns c).Start)), drop_of_length-le a.b.fields {i = c.loop-i.i} (omega (arith, c.loop-i-test.false, other-six (goal.at.returns c).Start))))
+    ∙ rw (drop_of_length-le a.a.fields {i = c.loop-i.i} (omega (arith, c.loop-i-test.false, six c.args.a _ c.well_formed.0)), drop_of_length-le a.b.fields {i = c.loop-i.i} (omega (arith, c.loop-i-test.false, six c.args.b _ c.well_formed.1.0))))

@@ -30,12 +30,11 @@ pub loop-i-smaller : goal.loop-i-smaller
 loop-i-smaller c = omega arith
 
 pub loop-i-preserved : goal.loop-i-preserved
-loop-i-preserved c =
-    (
-      omega arith,
-      rest_more c.args.tuple.count c.args.tuple.fields c.loop-i.i (inside (goal.at.loop-i-preserved c).In-loop-i) (sym c.place_blank.ensures ∙ not-false _ c.if-not-place_blank.false-raw)
-          ∙ c.loop-i.invariant.1,
-    )
+loop-i-preserved c = (
+  omega arith,
+  rest_more c.args.tuple.count c.args.tuple.fields c.loop-i.i (inside (goal.at.loop-i-preserved c).In-loop-i) (sym c.place_blank.ensures ∙ not-false _ c.if-not-place_blank.false-raw)
+      ∙ c.loop-i.invariant.1,
+)
 
 pub returns : goal.returns
 returns c =

@@ -50,11 +50,10 @@ unfolding oldest_of
 tuples-init c = (omega arith, refl)
 
 pub tuples-preserved-then-tuple-wanted : goal.tuples-preserved-then-tuple-wanted
-tuples-preserved-then-tuple-wanted c =
-    (
-      omega arith,
-      passed_on (goal.at.tuples-preserved-then-tuple-wanted c).In-tuples (uncounted c.args.template (present (goal.at.tuples-preserved-then-tuple-wanted c).In-tuples) c.if-tuple-wanted.true),
-    )
+tuples-preserved-then-tuple-wanted c = (
+  omega arith,
+  passed_on (goal.at.tuples-preserved-then-tuple-wanted c).In-tuples (uncounted c.args.template (present (goal.at.tuples-preserved-then-tuple-wanted c).In-tuples) c.if-tuple-wanted.true),
+)
 
 pub tuples-preserved : goal.tuples-preserved
 tuples-preserved c =

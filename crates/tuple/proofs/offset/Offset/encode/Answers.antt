@@ -4,6 +4,7 @@ use mathlib.Core.Path.{◌≡◌, sym, ap, ◌∙◌}
 use mathlib.Core.Bool.{true}
 use lib.IntN.{ℤ, pos, negsuc, ◌+ℤ◌, ◌*ℤ◌}
 use mir.Facts.{to_z-of_z}
+use mir.Syntax.{w32}
 use Rattle.tuple.specs.declared.offset.Offset.TheVariants.{Hundredths}
 use Rattle.tuple.specs.Offsets.{in_range, coded_of}
 use Rattle.tuple.proofs.OffsetLaws.{read, Codes, coded-over, coded-under, within-range, twice-fits, coded-up, coded-down}
@@ -14,7 +15,7 @@ abbrev number : In-Hundredths → ℤ
 number c = read c.in-Hundredths.z
 
 coded-number : (c : In-Hundredths) → coded_of (Hundredths (number c)) ≡ coded_of c.args.self
-coded-number c = ap coded_of (ap Hundredths (to_z-of_z (search rules)) ∙ sym c.in-Hundredths.is)
+coded-number c = ap coded_of (ap Hundredths (to_z-of_z {w = w32} (search rules)) ∙ sym c.in-Hundredths.is)
 
 in-range : (c : Else-z) → in_range (Hundredths (number c.before.before)) ≡ true
 in-range c = within-range (number c.before.before) c.if-z-gt-LARGEST_OFFSET.false c.if-z.false
@@ -35,13 +36,13 @@ pub overflow_mul-result : goal.overflow_mul-result
 overflow_mul-result c = twice-fits (number (goal.at.overflow_mul-result c).In-Hundredths) (in-range (goal.at.overflow_mul-result c).Else-z) c.if-z-ge0.true
 
 pub overflow_add-result : goal.overflow_add-result
-overflow_add-result c = (up c).ranges
+overflow_add-result c = (up c).fits
 
 pub overflow_cast-result : goal.overflow_cast-result
 overflow_cast-result c = (up c).cast
 
 pub overflow_mul-result-else-z-ge0 : goal.overflow_mul-result-else-z-ge0
-overflow_mul-result-else-z-ge0 c = (down c).ranges
+overflow_mul-result-else-z-ge0 c = (down c).fits
 
 pub overflow_cast-result-else-z-ge0 : goal.overflow_cast-result-else-z-ge0
 overflow_cast-result-else-z-ge0 c = (down c).cast

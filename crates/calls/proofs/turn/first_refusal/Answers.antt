@@ -37,5 +37,5 @@ returns c =
     let s = c.before in
     let a = s.args in
     c.lent_refusal.ensures
-    ∙ ap (behind_stranger a.t1.config a.call) (lent_found a.t1 a.call s.requires (sym c.asks_tuples.ensures ∙ c.if-asks_tuples.false))
+    ∙ ap (behind_stranger a.space.config a.call) (lent_found a.space a.call s.requires (sym c.asks_tuples.ensures ∙ c.if-asks_tuples.false))
     ∙ sym (faultless (goal.at.returns c).In_default-1)

@@ -43,20 +43,20 @@ whole c = typed c.args.space _ c.well_formed.0
 
 -- a turn's place is one of a tuple held
 inside : (c : In-loop-i) → c.loop-i.i < capacity
-inside c = omega (arith, c.loop-i-test.true, formed-few (start c).args.t1 (start c).requires.0)
+inside c = omega (arith, c.loop-i-test.true, formed-few (start c).args.space (start c).requires.0)
 
 -- the space is not reached if its tuple is not appended
-ends : (c : In-loop-i) → appends_at (start c).args.t1 c.loop-i.i ≡ false → false ≡ is_reached (start c).args.t1
+ends : (c : In-loop-i) → appends_at (start c).args.space c.loop-i.i ≡ false → false ≡ is_reached (start c).args.space
 ends c e =
     let s = start c in
-    sym (appended-not s.args.t1 s.pre.0 (whole s) c.loop-i.i c.loop-i-test.true e) ∙ c.loop-i.invariant.2
+    sym (appended-not s.args.space s.pre.0 (whole s) c.loop-i.i c.loop-i-test.true e) ∙ c.loop-i.invariant.2
 
 -- what was asked of its call, if it does not belong in the table, which then is as before
 said : (c : After-is_permitted) → let t = turn c.before.before.before.before in
-    c.is_permitted.result ≡ is_permit (said_at (start t).args.t1 t.before.loop.i)
+    c.is_permitted.result ≡ is_permit (said_at (start t).args.space t.before.loop.i)
 said c =
     let l = (turn c.before.before.before.before).before in
-    let space = l.before.before.args.t1 in
+    let space = l.before.before.args.space in
     let config = space.config in
     let tuple = tuple_at space l.loop.i in
     let out : belongs config tuple ≡ false = sym c.enters.ensures.value ∙ not-true _ c.if-not-enters.true-raw in
@@ -78,25 +78,25 @@ bounds-space-i c = inside c
 pub enters-requires : goal.enters-requires
 enters-requires c =
     let s = start (goal.at.enters-requires c).In-loop-i in
-    let space = s.args.t1 in
+    let space = s.args.space in
     let i = c.loop-i.i in
     let both = subst (λ (table : List ℕ). (fits_table space.config table (tuple_at space i) ≡ true) × (length table ≡ table_places)) (sym c.loop-i.invariant.1)
     (fits-there space s.pre.0 s.pre.1 (whole s) i c.loop-i-test.true, table-length space.config empty_table (take i (held space)) ∙ empty-length space.config) in record { tuple_value = both.0; table_len = both.1 }
 
 pub call_of-call-requires : goal.call_of-call-requires
-call_of-call-requires c = let s = start (turn (goal.at.call_of-call-requires c).After-enters) in formed-sound s.args.t1 s.pre.0
+call_of-call-requires c = let s = start (turn (goal.at.call_of-call-requires c).After-enters) in formed-sound s.args.space s.pre.0
 
 pub returns-then-not-is_permitted : goal.returns-then-not-is_permitted
 returns-then-not-is_permitted c =
     let t = turn (goal.at.returns-then-not-is_permitted c).After-enters in
     let s = start t in
-    ends t (refused-there s.args.t1 s.pre.0 s.pre.1 (whole s) t.before.loop.i t.loop-test.taken (sym (said (goal.at.returns-then-not-is_permitted c).After-is_permitted) ∙ not-true _ c.if-not-is_permitted.true-raw))
+    ends t (refused-there s.args.space s.pre.0 s.pre.1 (whole s) t.before.loop.i t.loop-test.taken (sym (said (goal.at.returns-then-not-is_permitted c).After-is_permitted) ∙ not-true _ c.if-not-is_permitted.true-raw))
 
 pub loop-j-init : goal.loop-j-init
 loop-j-init c =
     let t = turn (goal.at.loop-j-init c).After-enters in
     let s = start t in
-    let space = s.args.t1 in
+    let space = s.args.space in
     let i = t.before.loop.i in
     let below = t.loop-test.taken in
     ⊎_elim
@@ -134,7 +134,7 @@ bounds-space-j c = asked c
 pub returns-then-decides_too : goal.returns-then-decides_too
 returns-then-decides_too c =
     let t = outer (goal.at.returns-then-decides_too c).After-decides_too in
-    let space = (start t).args.t1 in
+    let space = (start t).args.space in
     let i = t.before.loop.i in
     let j = c.loop-j.j in
     ends t (sym c.loop-j.invariant.1 ∙ asked_here (tuple_at space i) i space.tuples j no-tuple c.loop-j-test.true (omega (arith, asked (goal.at.returns-then-decides_too c).After-row_known-1, (whole (start t)).tuples))
@@ -146,7 +146,7 @@ overflow_add-j c = omega (arith, asked (goal.at.overflow_add-j c).After-row_know
 pub loop-j-preserved : goal.loop-j-preserved
 loop-j-preserved c =
     let t = outer (goal.at.loop-j-preserved c).After-decides_too in
-    let space = (start t).args.t1 in
+    let space = (start t).args.space in
     let i = t.before.loop.i in
     let j = c.loop-j.j in (
       omega (arith, c.loop-j-test.true),
@@ -163,7 +163,7 @@ loop-i-preserved c =
     let t = turn (goal.at.loop-i-preserved c).After-enters in
     let l = t.before in
     let s = start t in
-    let space = s.args.t1 in
+    let space = s.args.space in
     let i = l.loop.i in
     let below = t.loop-test.taken in
     let put : appends_at space i ≡ true = sym c.loop-j.invariant.1 ∙ asked-none (tuple_at space i) i space.tuples c.loop-j.j c.loop-j-test.false in (

@@ -14,7 +14,7 @@ use Rattle.dump.proofs.writing.put_record.Goals as goal
 -- the part has room for the record
 written : (c : After-write) → let a = c.args in
     (c.write.result ≡ Length (length (call_bytes a.call)))
-    × (put_mid a.at (length a.buffer.now - a.at) a.buffer.now c.write.new.1.0 ≡ sets a.buffer.now a.at (call_bytes a.call))
+    × (put_mid a.at (length a.buffer.now - a.at) a.buffer.now c.write.new.buffer.0 ≡ sets a.buffer.now a.at (call_bytes a.call))
 written c =
     let a = c.args in (
       c.write.ensures.value ∙ part-answer a.call c.requires.call_value a.buffer.now a.at c.requires.call_in_bounds,

@@ -55,8 +55,8 @@ pub overflow_add-i : goal.overflow_add-i
 overflow_add-i c = omega (arith, inside (goal.at.overflow_add-i c).In-loop-i)
 
 -- the record was written behind those before it
-wrote : (c : After-put_record-place) → Wrote c.loop-i.buffer c.loop-i.place (call_bytes (call_at c.args.space c.loop-i.i)) c.put_record-place.result c.put_record-place.new.0
-wrote c = rw c.call_of.ensures at c.put_record-place.ensures
+wrote : (c : After-put_record-place) → Wrote c.loop-i.buffer c.loop-i.place (call_bytes (call_at c.args.space c.loop-i.i)) c.put_record-place.result c.put_record-place.new.buffer
+wrote c = rw c.call_of.ensures at (c.put_record-place.ensures.value, c.put_record-place.ensures.buffer_after)
 
 pub loop-i-preserved : goal.loop-i-preserved
 loop-i-preserved c =

@@ -61,7 +61,7 @@ set_up_width-requires c =
 
 -- the set-up as it was written
 set-up : (c : After-set_up_width) → let a = c.args in
-    Wrote a.buffer.now 0 (set_up_bytes a.space.config) c.set_up_width.result c.put_set_up.new.0
+    Wrote a.buffer.now 0 (set_up_bytes a.space.config) c.set_up_width.result c.put_set_up.new.buffer
 set-up c = (omega (arith, c.set_up_width.ensures), c.put_set_up.ensures)
 
 pub put_records-requires : goal.put_records-requires
@@ -79,5 +79,5 @@ unfolding dump_bytes
 returns c =
     let a = c.args in
     let whole = written-whole a.space a.buffer.now (dumpable (goal.at.returns c).Else-not-is_reached) (room (goal.at.returns c).Else-not-has_room) in
-    let wrote = wrote_then a.buffer.now 0 (set_up_bytes a.space.config) (records_bytes (dump_calls a.space)) (set-up (goal.at.returns c).After-set_up_width) c.put_records.ensures in
+    let wrote = wrote_then a.buffer.now 0 (set_up_bytes a.space.config) (records_bytes (dump_calls a.space)) (set-up (goal.at.returns c).After-set_up_width) (c.put_records.ensures.value, c.put_records.ensures.buffer_after) in
     record { value = ap Length (omega (arith, wrote.0)) ∙ whole.0; buffer_after = wrote.1 ∙ whole.1 }

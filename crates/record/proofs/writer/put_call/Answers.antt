@@ -14,26 +14,26 @@ use Rattle.record.proofs.writer.put_call.Goals as goal
 
 -- the template and the entry, as they were written
 template : (c : After-put_part-after_template) → let call = c.args.call in
-    Wrote c.put_number-after_code.new.0 c.put_number-after_code.result (part_bytes (uses_template call.code) call.template) c.put_part-after_template.result c.put_part-after_template.new.0
+    Wrote c.put_number-after_code.new.0 c.put_number-after_code.result (part_bytes (uses_template call.code) call.template) c.put_part-after_template.result c.put_part-after_template.new.buffer
 template c =
     let call = c.args.call in
-    subst (λ (used : Bool). Wrote c.put_number-after_code.new.0 c.put_number-after_code.result (part_bytes used call.template) c.put_part-after_template.result c.put_part-after_template.new.0)
-    c.uses_template.ensures c.put_part-after_template.ensures
+    subst (λ (used : Bool). Wrote c.put_number-after_code.new.0 c.put_number-after_code.result (part_bytes used call.template) c.put_part-after_template.result c.put_part-after_template.new.buffer)
+    c.uses_template.ensures (c.put_part-after_template.ensures.value, c.put_part-after_template.ensures.buffer_after)
 
 entry : (c : After-put_part) → let call = c.args.call in
-    Wrote c.put_part-after_template.new.0 c.put_part-after_template.result (part_bytes (uses_entry call.code) call.entry) c.put_part.result c.put_part.new.0
+    Wrote c.put_part-after_template.new.buffer c.put_part-after_template.result (part_bytes (uses_entry call.code) call.entry) c.put_part.result c.put_part.new.buffer
 entry c =
     let call = c.args.call in
-    subst (λ (used : Bool). Wrote c.put_part-after_template.new.0 c.put_part-after_template.result (part_bytes used call.entry) c.put_part.result c.put_part.new.0)
-    c.uses_entry.ensures c.put_part.ensures
+    subst (λ (used : Bool). Wrote c.put_part-after_template.new.buffer c.put_part-after_template.result (part_bytes used call.entry) c.put_part.result c.put_part.new.buffer)
+    c.uses_entry.ensures (c.put_part.ensures.value, c.put_part.ensures.buffer_after)
 
 -- where the template begins, and how long the buffer is there
 behind-code : (c : After-put_number-after_code) → (c.put_number-after_code.result ≡ width_of c.args.call.process + width_of c.args.call.code) × (length c.put_number-after_code.new.0 ≡ length c.args.buffer.now)
 behind-code c =
     (
       omega (arith, c.put_number-after_process.ensures.value, c.put_number-after_code.ensures.value),
-      wrote-length c.put_number-after_process.new.0 c.put_number-after_process.result (bytes_of c.args.call.code) c.put_number-after_code.ensures
-          ∙ wrote-length c.args.buffer.now 0 (bytes_of c.args.call.process) c.put_number-after_process.ensures,
+      wrote-length c.put_number-after_process.new.0 c.put_number-after_process.result (bytes_of c.args.call.code) (c.put_number-after_code.ensures.value, c.put_number-after_code.ensures.buffer_after)
+          ∙ wrote-length c.args.buffer.now 0 (bytes_of c.args.call.process) (c.put_number-after_process.ensures.value, c.put_number-after_process.ensures.buffer_after),
     )
 
 pub put_number-after_process-requires : goal.put_number-after_process-requires
@@ -44,7 +44,7 @@ put_number-after_process-requires c =
 pub put_number-after_code-requires : goal.put_number-after_code-requires
 put_number-after_code-requires c =
     let call = c.args.call in
-    record { value_le_largest = omega arith; value_in_bounds = omega (arith, c.put_number-after_process.ensures.value, wrote-length c.args.buffer.now 0 (bytes_of call.process) c.put_number-after_process.ensures, call_length call, c.requires.call_in_bounds) }
+    record { value_le_largest = omega arith; value_in_bounds = omega (arith, c.put_number-after_process.ensures.value, wrote-length c.args.buffer.now 0 (bytes_of call.process) (c.put_number-after_process.ensures.value, c.put_number-after_process.ensures.buffer_after), call_length call, c.requires.call_in_bounds) }
 
 pub put_part-after_template-requires : goal.put_part-after_template-requires
 put_part-after_template-requires c =
@@ -74,6 +74,6 @@ returns c =
     let call = c.args.call in
     let t = part_bytes (uses_template call.code) call.template in
     let e = part_bytes (uses_entry call.code) call.entry in
-    (wrote_then c.args.buffer.now 0 (bytes_of call.process) (bytes_of call.code ++ (t ++ e)) c.put_number-after_process.ensures
-    (wrote_then c.put_number-after_process.new.0 c.put_number-after_process.result (bytes_of call.code) (t ++ e) c.put_number-after_code.ensures
+    (wrote_then c.args.buffer.now 0 (bytes_of call.process) (bytes_of call.code ++ (t ++ e)) (c.put_number-after_process.ensures.value, c.put_number-after_process.ensures.buffer_after)
+    (wrote_then c.put_number-after_process.new.0 c.put_number-after_process.result (bytes_of call.code) (t ++ e) (c.put_number-after_code.ensures.value, c.put_number-after_code.ensures.buffer_after)
     (wrote_then c.put_number-after_code.new.0 c.put_number-after_code.result t e (template (goal.at.returns c).After-put_part-after_template) (entry (goal.at.returns c).After-put_part)))).1

@@ -14,7 +14,7 @@ use Rattle.record.proofs.writer.put_field.Goals as goal
 -- the head was written
 head : (c : After-put_number-place) → Wrote c.args.buffer.now c.args.at (bytes_of (head_number c.args.field)) c.put_number-place.result c.put_number-place.new.0
 head c =
-    subst (λ (h : ℕ). Wrote c.args.buffer.now c.args.at (bytes_of h) c.put_number-place.result c.put_number-place.new.0) c.head_number.ensures.value c.put_number-place.ensures
+    subst (λ (h : ℕ). Wrote c.args.buffer.now c.args.at (bytes_of h) c.put_number-place.result c.put_number-place.new.0) c.head_number.ensures.value (c.put_number-place.ensures.value, c.put_number-place.ensures.buffer_after)
 
 pub head_number-requires : goal.head_number-requires
 head_number-requires c = c.requires.writable_field
@@ -38,7 +38,7 @@ pub returns-then-field-eq-DEFINED : goal.returns-then-field-eq-DEFINED
 returns-then-field-eq-DEFINED c =
     let d = eq-eqb c.args.field.state 0 c.if-field-eq-DEFINED.true in
     let both = subst (λ (t : List ℕ). Wrote c.args.buffer.now c.args.at t c.put_number.result c.put_number.new.0) (bytes-defined c.args.field d)
-    (wrote_then c.args.buffer.now c.args.at (bytes_of (head_number c.args.field)) (bytes_of c.args.field.value) (head (goal.at.returns-then-field-eq-DEFINED c).After-put_number-place) c.put_number.ensures) in record { value = both.0; buffer_after = both.1 }
+    (wrote_then c.args.buffer.now c.args.at (bytes_of (head_number c.args.field)) (bytes_of c.args.field.value) (head (goal.at.returns-then-field-eq-DEFINED c).After-put_number-place) (c.put_number.ensures.value, c.put_number.ensures.buffer_after)) in record { value = both.0; buffer_after = both.1 }
 
 pub returns-else-field-eq-DEFINED : goal.returns-else-field-eq-DEFINED
 returns-else-field-eq-DEFINED c =

@@ -11,7 +11,7 @@ use Rattle.record.proofs.writer.put_number.Goals as goal
 
 -- the number is held and has room, so it is written
 written : (c : After-write) → let a = c.args in
-    (c.write.result ≡ Next (a.at + width_of a.value)) × (c.write.new.0 ≡ sets a.buffer.now a.at (bytes_of a.value))
+    (c.write.result ≡ Next (a.at + width_of a.value)) × (c.write.new.buffer ≡ sets a.buffer.now a.at (bytes_of a.value))
 written c =
     let a = c.args in
     let next = written_next a.buffer.now a.at a.value c.requires.value_le_largest c.requires.value_in_bounds in

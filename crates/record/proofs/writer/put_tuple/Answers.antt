@@ -41,7 +41,7 @@ put_field-place-requires c =
         left-length (goal.at.put_field-place-requires c).In-loop-i,
         tuple-length c.args.tuple,
         c.put_number-place.ensures.value,
-        wrote-length c.args.buffer.now c.args.at (bytes_of c.args.tuple.count) c.put_number-place.ensures,
+        wrote-length c.args.buffer.now c.args.at (bytes_of c.args.tuple.count) (c.put_number-place.ensures.value, c.put_number-place.ensures.buffer_after),
         c.loop-i.invariant.2,
         c.loop-i.invariant.3,
         c.requires.tuple_in_bounds,
@@ -53,16 +53,16 @@ loop-i-preserved c =
     let field = field_bytes (get_or a.fields c.loop-i.i blank_field) in
     let rest = fields_bytes (drop (c.loop-i.i + 1) (take a.count a.fields)) in (
       omega arith,
-      (wrote_then c.loop-i.buffer c.loop-i.place field rest c.put_field-place.ensures (refl, refl)).1
+      (wrote_then c.loop-i.buffer c.loop-i.place field rest (c.put_field-place.ensures.value, c.put_field-place.ensures.buffer_after) (refl, refl)).1
           ∙ ap (sets c.loop-i.buffer c.loop-i.place) (sym (left (goal.at.loop-i-preserved c).In-loop-i))
           ∙ c.loop-i.invariant.1,
       omega (arith, left-length (goal.at.loop-i-preserved c).In-loop-i, c.put_field-place.ensures.value, c.loop-i.invariant.2),
-      wrote-length c.loop-i.buffer c.loop-i.place field c.put_field-place.ensures ∙ c.loop-i.invariant.3,
+      wrote-length c.loop-i.buffer c.loop-i.place field (c.put_field-place.ensures.value, c.put_field-place.ensures.buffer_after) ∙ c.loop-i.invariant.3,
     )
 
 pub shape_of-buffer : goal.shape_of-buffer
 shape_of-buffer c =
-    c.loop-i.invariant.3 ∙ wrote-length c.args.buffer.now c.args.at (bytes_of c.args.tuple.count) c.put_number-place.ensures
+    c.loop-i.invariant.3 ∙ wrote-length c.args.buffer.now c.args.at (bytes_of c.args.tuple.count) (c.put_number-place.ensures.value, c.put_number-place.ensures.buffer_after)
 
 pub returns : goal.returns
 unfolding tuple_bytes
@@ -70,7 +70,7 @@ returns c =
     let a = c.args.tuple in
     let all = fields_bytes (take a.count a.fields) in
     let none = fields-end a c.loop-i.i c.loop-i-test.false in
-    let both = wrote_then c.args.buffer.now c.args.at (bytes_of a.count) all c.put_number-place.ensures (
+    let both = wrote_then c.args.buffer.now c.args.at (bytes_of a.count) all (c.put_number-place.ensures.value, c.put_number-place.ensures.buffer_after) (
       omega (arith, ap length none, c.loop-i.invariant.2),
       sym (ap (sets c.loop-i.buffer c.loop-i.place) none) ∙ c.loop-i.invariant.1,
     ) in record { value = both.0; buffer_after = both.1 }

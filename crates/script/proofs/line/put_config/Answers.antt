@@ -18,7 +18,7 @@ returns c =
     let both = wrote_then out at small (to-policy ++ choices_text config) feed
     (wrote_then out at small to-policy (choices_text config)
     (wrote_then out at small to-t (spaced config.policy)
-    (wrote_then out at small to-n (spaced config.t) (wrote_then out at small board_text (spaced config.n) c.put-word.ensures c.put_spaced-n.ensures) c.put_spaced-t.ensures)
-    c.put_spaced-policy.ensures)
-    c.put_choices-choices.ensures)
-    c.put.ensures in record { value = both.0; out_after = both.1 }
+    (wrote_then out at small to-n (spaced config.t) (wrote_then out at small board_text (spaced config.n) (c.put-word.ensures.value, c.put-word.ensures.out_after) (c.put_spaced-n.ensures.value, c.put_spaced-n.ensures.out_after)) (c.put_spaced-t.ensures.value, c.put_spaced-t.ensures.out_after))
+    (c.put_spaced-policy.ensures.value, c.put_spaced-policy.ensures.out_after))
+    (c.put_choices-choices.ensures.value, c.put_choices-choices.ensures.out_after))
+    (c.put.ensures.value, c.put.ensures.out_after) in record { value = both.0; out_after = both.1 }

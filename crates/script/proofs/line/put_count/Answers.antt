@@ -11,5 +11,5 @@ returns c =
     let a = c.args in
     let count = spaced a.count in
     let both = wrote_then a.out.now a.at c.well_formed.0.0 (tuples_text ++ count) feed
-    (wrote_then a.out.now a.at c.well_formed.0.0 tuples_text count c.put-word.ensures c.put_spaced-number.ensures)
-    c.put.ensures in record { value = both.0; out_after = both.1 }
+    (wrote_then a.out.now a.at c.well_formed.0.0 tuples_text count (c.put-word.ensures.value, c.put-word.ensures.out_after) (c.put_spaced-number.ensures.value, c.put_spaced-number.ensures.out_after))
+    (c.put.ensures.value, c.put.ensures.out_after) in record { value = both.0; out_after = both.1 }

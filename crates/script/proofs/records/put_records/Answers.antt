@@ -328,8 +328,8 @@ loop-cursor-init c =
 pub shape_of-out-in_default : goal.shape_of-out-in_default
 shape_of-out-in_default c =
     let l = turn (goal.at.shape_of-out-in_default c).After-call-read in
-    wrote-length c.put_unread-end.new.0 c.put_unread-end.result (count_line l.loop.count) c.put_count.ensures
-    ∙ wrote-length l.loop.out l.loop.place (unread_of l.loop.number c.call-read.result.next) c.put_unread-end.ensures
+    wrote-length c.put_unread-end.new.out c.put_unread-end.result (count_line l.loop.count) (c.put_count.ensures.value, c.put_count.ensures.out_after)
+    ∙ wrote-length l.loop.out l.loop.place (unread_of l.loop.number c.call-read.result.next) (c.put_unread-end.ensures.value, c.put_unread-end.ensures.out_after)
     ∙ l.loop.inv.0.long
 
 pub returns-in_default : goal.returns-in_default
@@ -337,7 +337,7 @@ returns-in_default c =
     let l = turn (goal.at.returns-in_default c).After-call-read in
     let left = l.loop.inv.0 in
     let both = finished left (stop-lines (goal.at.returns-in_default c).In_default)
-    (wrote_then l.loop.out l.loop.place (omega (arith, left.long, left.small)) (unread_of l.loop.number c.call-read.result.next) (count_line l.loop.count) c.put_unread-end.ensures c.put_count.ensures) in record { value = both.0; out_after = both.1 }
+    (wrote_then l.loop.out l.loop.place (omega (arith, left.long, left.small)) (unread_of l.loop.number c.call-read.result.next) (count_line l.loop.count) (c.put_unread-end.ensures.value, c.put_unread-end.ensures.out_after) (c.put_count.ensures.value, c.put_count.ensures.out_after)) in record { value = both.0; out_after = both.1 }
 
 pub tuples-init : goal.tuples-init
 unfolding oldest_of
@@ -498,8 +498,8 @@ loop-cursor-preserved c =
 
 pub shape_of-out : goal.shape_of-out
 shape_of-out c =
-    wrote-length c.loop-cursor.out c.loop-cursor.place (count_line c.loop-cursor.count) c.put_count-2.ensures ∙ c.loop-cursor.invariant.0.long
+    wrote-length c.loop-cursor.out c.loop-cursor.place (count_line c.loop-cursor.count) (c.put_count-2.ensures.value, c.put_count-2.ensures.out_after) ∙ c.loop-cursor.invariant.0.long
 
 pub returns : goal.returns
 returns c =
-    let both = finished c.loop-cursor.invariant.0 (end-lines (goal.at.returns c).After-loop-cursor) c.put_count-2.ensures in record { value = both.0; out_after = both.1 }
+    let both = finished c.loop-cursor.invariant.0 (end-lines (goal.at.returns c).After-loop-cursor) (c.put_count-2.ensures.value, c.put_count-2.ensures.out_after) in record { value = both.0; out_after = both.1 }

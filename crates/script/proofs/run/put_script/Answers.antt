@@ -56,8 +56,8 @@ returns-in-At c =
     let s = begun h in
     let config = h.head.result.config in
     let both = whole h (stands (goal.at.returns-in-At c).In-At-2)
-    (wrote_then s.args.out.now 0 s.good.0.0 (config_line config) (lines_on 1 (fresh_of config).space (records_at s.args.script.now c.in-At.start.at)) c.put_config-place.ensures c.put_records.ensures) in record { value = both.0; out_after = both.1 }
+    (wrote_then s.args.out.now 0 s.good.0.0 (config_line config) (lines_on 1 (fresh_of config).space (records_at s.args.script.now c.in-At.start.at)) (c.put_config-place.ensures.value, c.put_config-place.ensures.out_after) (c.put_records.ensures.value, c.put_records.ensures.out_after)) in record { value = both.0; out_after = both.1 }
 
 pub returns-in-Refused : goal.returns-in-Refused
 returns-in-Refused c =
-    let both = whole (goal.at.returns-in-Refused c).After-head-head (refuses (goal.at.returns-in-Refused c).In-Refused-2) c.put_refused.ensures in record { value = both.0; out_after = both.1 }
+    let both = whole (goal.at.returns-in-Refused c).After-head-head (refuses (goal.at.returns-in-Refused c).In-Refused-2) (c.put_refused.ensures.value, c.put_refused.ensures.out_after) in record { value = both.0; out_after = both.1 }

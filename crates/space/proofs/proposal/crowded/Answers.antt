@@ -51,16 +51,16 @@ turn c = c.before.before.before.before.before
 
 left : (c : After-differ-total) → let a = (turn c.before.before.before.before).before.before.before.before.args in
     let code = proposed_code (present (turn c.before.before.before.before)) in
-    backers a.t1.config (drop c.loop-j.j (held a.t1)) a.round c.loop-j.rest code
-    ≡ c.differ-total.result + backers a.t1.config (drop (c.loop-j.j + 1) (held a.t1)) a.round c.strike_proposer-left.result code
+    backers a.space.config (drop c.loop-j.j (held a.space)) a.round c.loop-j.rest code
+    ≡ c.differ-total.result + backers a.space.config (drop (c.loop-j.j + 1) (held a.space)) a.round c.strike_proposer-left.result code
 unfolding backers
 left c =
     let n = (turn c.before.before.before.before).before.before in
     let s = n.before.before in
     let a = s.args in
     let code = proposed_code (present (turn c.before.before.before.before)) in
-    tally-step a.t1.config (One code) a.round a.t1.count a.t1.tuples c.loop-j.j _
-    (omega (arith, c.loop-j-test.true, n.least.ensures)) (omega (arith, c.loop-j-test.true, n.least.ensures, full a.t1 _ s.good.0))
+    tally-step a.space.config (One code) a.round a.space.count a.space.tuples c.loop-j.j _
+    (omega (arith, c.loop-j-test.true, n.least.ensures)) (omega (arith, c.loop-j-test.true, n.least.ensures, full a.space _ s.good.0))
     c.loop-j.rest _ c.strike_proposer-left.ensures _ c.differ-total.ensures
 
 -- each turn counts at most one
@@ -73,7 +73,7 @@ one c = rw c.differ-total.ensures (most (eqb c.strike_proposer-left.result c.loo
 
 -- behind it: all are counted, and the tuple of the turn crowds if they are more than t
 counts : (c : After-loop-j) → let u = turn c.before in
-    test u.before.before.before.before (present u) ≡ ltb u.before.before.before.before.args.t1.config.t c.loop-j.total
+    test u.before.before.before.before (present u) ≡ ltb u.before.before.before.before.args.space.config.t c.loop-j.total
 unfolding proposed backers
 counts c =
     let u = turn c.before in
@@ -81,10 +81,10 @@ counts c =
     let s = n.before.before in
     let a = s.args in
     let code = proposed_code (present u) in
-    let none = ap (λ (tuples : List Tuple). backers a.t1.config tuples a.round c.loop-j.rest code)
-    (drop-take-end a.t1.count a.t1.tuples c.loop-j.j (omega (arith, c.loop-j-test.false, n.least.ensures, full a.t1 _ s.good.0)))
-    ∙ counted_never a.t1.config.n 1 c.loop-j.rest in
-    let total : backers a.t1.config (held a.t1) a.round a.set code ≡ c.loop-j.total = omega (arith, c.loop-j.invariant.2, none) in
+    let none = ap (λ (tuples : List Tuple). backers a.space.config tuples a.round c.loop-j.rest code)
+    (drop-take-end a.space.count a.space.tuples c.loop-j.j (omega (arith, c.loop-j-test.false, n.least.ensures, full a.space _ s.good.0)))
+    ∙ counted_never a.space.config.n 1 c.loop-j.rest in
+    let total : backers a.space.config (held a.space) a.round a.set code ≡ c.loop-j.total = omega (arith, c.loop-j.invariant.2, none) in
     rw (sym c.is_placed.ensures ∙ c.if-is_placed.true, total)
 
 pub loop-i-init : goal.loop-i-init
@@ -110,7 +110,7 @@ returns-then-config-total c =
     let u = turn (goal.at.returns-then-config-total c).At-loop-j in
     let l = u.before in
     let s = l.before.before.before in
-    some-here (test s) (some s) refl (λ tuple rest. refl) s.args.t1.count s.args.t1.tuples l.loop.i l.loop.inv.1 _ (below u) (inside u)
+    some-here (test s) (some s) refl (λ tuple rest. refl) s.args.space.count s.args.space.tuples l.loop.i l.loop.inv.1 _ (below u) (inside u)
     (counts (goal.at.returns-then-config-total c).After-loop-j ∙ lt-ltb _ _ c.if-config-total.true)
 
 pub loop-i-smaller : goal.loop-i-smaller

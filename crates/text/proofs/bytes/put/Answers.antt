@@ -29,4 +29,4 @@ shape_of-out c =
 pub returns : goal.returns
 returns c =
     let all = take_all c.loop-i.i c.args.bytes.now c.loop-i-test.false in
-    let both = rw all at c.loop-i.invariant.1 in record { value = both.0; out_after = both.1 }
+    record { value = rw all (at c.loop-i.invariant.1).0; out_after = rw all (at c.loop-i.invariant.1).1 }

@@ -7,4 +7,4 @@ pub returns : goal.returns
 unfolding field_text
 returns c =
     let a = c.args in
-    let both = wrote_then a.out.now a.at c.well_formed.0.0 (letter_text a.field.kind) (value_text a.field.kind a.field.value) c.put_letter-place.ensures c.put_value.ensures in record { value = both.0; out_after = both.1 }
+    let both = wrote_then a.out.now a.at c.well_formed.0.0 (letter_text a.field.kind) (value_text a.field.kind a.field.value) (c.put_letter-place.ensures.value, c.put_letter-place.ensures.out_after) (c.put_value.ensures.value, c.put_value.ensures.out_after) in record { value = both.0; out_after = both.1 }

@@ -42,7 +42,7 @@ loop-i-preserved c =
     let tuple = c.args.tuple in
     let i = c.loop-i.i in
     rw (← fields-more tuple.count tuple.fields i c.if-count-i.false (omega (arith, long (goal.at.loop-i-preserved c).At-loop-i, c.loop-i-test.true)))
-    (wrote_then c.args.out.now c.args.at c.well_formed.0.0 (fields_text (take i (take tuple.count tuple.fields))) (field_text (get_or tuple.fields i blank_field)) c.loop-i.invariant c.put_field-place.ensures)
+    (wrote_then c.args.out.now c.args.at c.well_formed.0.0 (fields_text (take i (take tuple.count tuple.fields))) (field_text (get_or tuple.fields i blank_field)) c.loop-i.invariant (c.put_field-place.ensures.value, c.put_field-place.ensures.out_after))
 
 pub shape_of-out : goal.shape_of-out
 shape_of-out c = kept (goal.at.shape_of-out c).At-loop-i

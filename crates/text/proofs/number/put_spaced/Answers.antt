@@ -7,4 +7,4 @@ use Rattle.text.proofs.number.put_spaced.Goals as goal
 pub returns : goal.returns
 unfolding spaced
 returns c =
-    let both = wrote_then c.args.out.now c.args.at c.well_formed.0.0 gap (decimal c.args.n) c.put-place.ensures c.put_number.ensures in record { value = both.0; out_after = both.1 }
+    let both = wrote_then c.args.out.now c.args.at c.well_formed.0.0 gap (decimal c.args.n) (c.put-place.ensures.value, c.put-place.ensures.out_after) (c.put_number.ensures.value, c.put_number.ensures.out_after) in record { value = both.0; out_after = both.1 }

@@ -12,5 +12,5 @@ returns c =
     let number = decimal a.number in
     let reply = reply_text a.reply in
     let both = wrote_then a.out.now a.at c.well_formed.0.0 (number ++ reply) feed
-    (wrote_then a.out.now a.at c.well_formed.0.0 number reply c.put_number-head.ensures c.put_reply-place.ensures)
-    c.put.ensures in record { value = both.0; out_after = both.1 }
+    (wrote_then a.out.now a.at c.well_formed.0.0 number reply (c.put_number-head.ensures.value, c.put_number-head.ensures.out_after) (c.put_reply-place.ensures.value, c.put_reply-place.ensures.out_after))
+    (c.put.ensures.value, c.put.ensures.out_after) in record { value = both.0; out_after = both.1 }

@@ -7,4 +7,4 @@ pub returns : goal.returns
 unfolding refusal_text
 returns c =
     let a = c.args in
-    let both = rw (← c.number-number.ensures) (wrote_then a.out.now a.at c.well_formed.0.0 refused_text (spaced c.number-number.result) c.put-place.ensures c.put_spaced.ensures) in record { value = both.0; out_after = both.1 }
+    record { value = rw (← c.number-number.ensures) (wrote_then a.out.now a.at c.well_formed.0.0 refused_text (spaced c.number-number.result) (c.put-place.ensures.value, c.put-place.ensures.out_after) (c.put_spaced.ensures.value, c.put_spaced.ensures.out_after)).0; out_after = rw (← c.number-number.ensures) (wrote_then a.out.now a.at c.well_formed.0.0 refused_text (spaced c.number-number.result) (c.put-place.ensures.value, c.put-place.ensures.out_after) (c.put_spaced.ensures.value, c.put_spaced.ensures.out_after)).1 }

@@ -1,5 +1,5 @@
 /* The shared offset board, for C from C11 on and C++ from C++11 on: the functions of crates/board_c, proved, in target/staticlib/libboard_c.a
- * (`rt staticlib board_c`), a static library for x86-64 Linux and for no other target. Header and library must be of the same checkout.
+ * (`.ci/library`), a static library for x86-64 Linux and for no other target. Header and library must be of the same checkout.
  *
  * Structs cross by value, a slice as its pointer and its length, and a number stands for each case of an enum. Every function has an answer for every
  * number and struct that is passed, and keeps none of them. A pointer must be valid for that many bytes, writable where the function writes, and the two

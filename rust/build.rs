@@ -1,4 +1,4 @@
-//! Links the proved library, which `rt staticlib board_c` writes to target/staticlib of the repository.
+//! Links the proved library, which `.ci/library` puts into target/staticlib of the repository.
 
 use std::env;
 use std::path::PathBuf;
@@ -9,7 +9,7 @@ fn main() {
     let library = folder.join("libboard_c.a");
     println!("cargo:rerun-if-changed=build.rs");
     println!("cargo:rerun-if-changed={}", library.display());
-    assert!(library.exists(), "no {}: run `rt staticlib board_c` first", library.display());
+    assert!(library.exists(), "no {}: run `.ci/library` first", library.display());
     println!("cargo:rustc-link-search=native={}", folder.display());
     println!("cargo:rustc-link-lib=static=board_c");
 }

@@ -98,7 +98,7 @@ module _ (process : ℕ) where
         by = o.by;
         with-serial = o.with-serial;
         of = o.of;
-        first = λ j. elim j [
+        first = λ j. elim j as (λ j. j < suc o.at → is_announcement (get_or (tuple ∷ tuples) j blank_tuple) ≡ true → announcer_of (get_or (tuple ∷ tuples) j blank_tuple) ≡ process → ⊥) [
           | zero ↦ λ below shape by. let met = (announces-rule process tuple).1 (shape, by) in let z : ◌≡◌ {A = ℕ} 0 1 = cc in omega arith
           | suc j ↦ λ below. o.first j (omega arith)
         ];

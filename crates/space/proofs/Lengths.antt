@@ -1,9 +1,9 @@
 -- The tuples of a space are as many as its capacity, each with six places, from what owning it tells.
-use mathlib.Core.Path.{◌≡◌, sym, ◌∙◌}
+use mathlib.Core.Path.{◌≡◌}
 use mathlib.Core.List.Memᴰ
-use mathlib.Core.List.{List, [], ◌∷◌, map, Memᴰ}
+use mathlib.Core.List.{List, [], ◌∷◌, Memᴰ}
 use mathlib.Core.Logic.{⊎_elim}
-use lib.ListN.{length, length-map}
+use lib.ListN.{length}
 use mir.Val.{Val}
 use denote.Array.{each}
 use denote.Laws.{Is}
@@ -16,15 +16,15 @@ use Rattle.space.specs.contracts.space.Space.{the_type}
 use Rattle.tuple.specs.declared.field.Tuple.{Tuple}
 use Rattle.tuple.specs.Bounds.{places, capacity}
 use Rattle.tuple.proofs.Lengths.{six}
-use Rattle.tuple.specs.contracts.field.Tuple.{the_field}
+use Rattle.tuple.specs.contracts.field.Tuple.{the_type as tuple_type}
 
 pub full : (space : Space) (vs : List Val) → Is (row the_type) space vs → length space.tuples ≡ capacity
-full space vs g = sym (length-map space.tuples _) ∙ g.1.1.1.1.0.1.0.1
+full space vs g = g.1.1.1.1.0.1.0.1
 
 pub wide : (space : Space) (vs : List Val) → Is (row the_type) space vs → length space.table ≡ table_places
-wide space vs g = sym (length-map space.table _) ∙ g.1.1.1.1.1.0.1.0.1
+wide space vs g = g.1.1.1.1.1.0.1.0.1
 
-each-six : (tuples : List Tuple) (us : List Val) → shadow (each the_field.row.Denot the_field.row.own_val (map the_field.into tuples) us)
+each-six : (tuples : List Tuple) (us : List Val) → shadow (each Tuple (row tuple_type).own_val tuples us)
     → (tuple : Tuple) → Memᴰ tuple tuples → length tuple.fields ≡ places
 each-six [] us g tuple m = absurd (Memᴰ.not-nil m)
 each-six (t ∷ ts) [] g tuple m = absurd g

@@ -2,14 +2,11 @@
 use mathlib.Core.Path.{sym, ap, ◌∙◌}
 use Prim.Native.Nat.{ℕ, ◌+◌, ◌-◌}
 use native.Mathlib.Omega.{arith}
-use mathlib.Core.Bool.{Bool, false}
 use borrow.Author.Tests.{eq-eqb, ne_eqb}
 use Rattle.space.specs.Members.{every}
 use Rattle.space.proofs.MemberSteps.{every-step, every-end, every-none}
+use Rattle.space.proofs.member.has_none.Invariants.{never}
 use Rattle.space.proofs.member.has_none.Goals as goal
-
-abbrev never : ℕ → Bool
-never k = false
 
 pub loop-k-init : goal.loop-k-init
 loop-k-init c = (omega arith, ap (λ (m : ℕ). every never m 1 c.args.set) (omega arith))

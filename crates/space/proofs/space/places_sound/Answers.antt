@@ -5,15 +5,11 @@ use native.Mathlib.Omega.{arith}
 use mathlib.Core.List.{[]}
 use lib.ListN.{length, drop, drop_of_length-le}
 use borrow.Author.Tests.{not-true, not-false}
-use Rattle.space.specs.declared.space.Space.{Space}
 use Rattle.space.specs.Spaces.{places_from}
 use Rattle.space.proofs.Lengths.{full}
 use Rattle.space.proofs.SpaceLaws.{used-place, unused-place, sound_more, sound-stop, sound-end}
 use Rattle.space.proofs.space.places_sound.Goals.{In-loop-i, In-loop-i-2}
 use Rattle.space.proofs.space.places_sound.Goals as goal
-
-abbrev Left : Space → ℕ → Type 0
-Left space i = places_from (space.count - i) (drop i space.tuples) ≡ places_from space.count space.tuples
 
 -- in a turn the place stands in the array
 inside : (c : In-loop-i) → c.loop-i.i < length c.args.space.tuples

@@ -70,9 +70,8 @@ loop-i-preserved c =
 pub returns : goal.returns
 unfolding table_sound
 returns c =
-    let s = c.before in
-    let a = s.args.space in
-    let end = tabled-end a.config c.loop-i.table c.count_tabled-count.result a.tuples c.loop-i.i (omega (arith, c.loop-i-test.false, full a _ s.well-formed.0)) in
+    let a = c.args.space in
+    let end = tabled-end a.config c.loop-i.table c.count_tabled-count.result a.tuples c.loop-i.i (omega (arith, c.loop-i-test.false, full a _ c.well_formed.0)) in
     c.same_table.ensures
     ∙ ap (same_table a.table) (end.1 ∙ c.loop-i.invariant.3)
     ∙ ap (λ (b : Bool). b && same_table a.table (table_of a.config (held a))) (end.0 ∙ c.loop-i.invariant.2)

@@ -1,27 +1,22 @@
 -- A record has at most 140 bytes, and one has exactly 140: of each part the most bytes, by the most bytes of a value, from varint's widths and what no fault
 -- tells.
 use mathlib.Core.Path.{◌≡◌, refl, ap}
-use Prim.Native.Nat.{ℕ, zero, suc, ◌+◌, ◌*◌, ◌≤◌, ◌<◌}
+use Prim.Native.Nat.{ℕ, ◌+◌, ◌*◌, ◌≤◌, ◌<◌}
 use native.Mathlib.Nat.{mul-add, mul-le-mul_left}
 use native.Mathlib.Omega.{arith}
-use mathlib.Core.Bool.{Bool, true, false, false≢true, cond}
+use mathlib.Core.Bool.{Bool, true, false, cond}
 use mathlib.Core.List.{List, [], ◌∷◌}
-use lib.ListN.{length, take, get_or, replicate, length-append, length-take}
-use lib.Dec.{eqb}
-use borrow.Author.Tests.{eqb-true, eqb-false}
-use borrow.Table.Steps.{cases}
+use lib.ListN.{length, take, replicate, length-append, length-take}
 use Rattle.record.specs.Heads.{head_number}
 use Rattle.record.specs.Writing.{field_bytes, fields_bytes, tuple_bytes, part_bytes, call_bytes, Typed}
-use Rattle.record.specs.Laws.{AtMost, Attained, OldTuple, OldRecords}
-use Rattle.record.proofs.ReadBack.{read_back}
-use Rattle.tuple.proofs.FaultRules.{template-rule, entry-rule}
+use Rattle.record.specs.Laws.{AtMost, Attained}
 use Rattle.tuple.proofs.NoFault.{known-head, PassedField, fields-sound, tuple-sound, call-sound}
 use Rattle.varint.proofs.ReadingLaws.{picked}
 use Rattle.tuple.specs.declared.fault.Fault.TheVariants.{Absent}
 use Rattle.tuple.specs.declared.field.Field.{Field}
 use Rattle.tuple.specs.declared.field.Tuple.{Tuple}
 use Rattle.tuple.specs.declared.field.Call.{Call}
-use Rattle.tuple.specs.Fields.{word, count, offset, process_set, defined, cas, largest_of, blank_field}
+use Rattle.tuple.specs.Fields.{count, defined, cas, largest_of}
 use Rattle.tuple.specs.Bounds.{places, largest_process, largest_count}
 use Rattle.tuple.specs.Faults.{known_head, is_defined, field_fault, fields_fault, tuple_fault, part_fault, uses_template, uses_entry, used_fault, place_blank, rest_from, rest_blank, call_fault}
 use Rattle.varint.specs.Writing.{groups_of, bytes_of, width_of}

@@ -10,7 +10,6 @@ use lib.Dec.{eqb}
 use lib.ListN.{length, take, get_or}
 use borrow.Author.Tests.{eq-eqb, eqb-true, eqb-false}
 use borrow.Table.Steps.{cases}
-use Rattle.record.specs.Heads.{head_number}
 use Rattle.record.specs.Writing.{field_bytes, fields_bytes, tuple_bytes, part_bytes, call_bytes, Typed}
 use Rattle.record.specs.Laws.{field_numbers, fields_numbers, tuple_numbers, call_numbers, numbers_bytes, Old, OldTuple, OldCall, OldRecords}
 use Rattle.record.proofs.Length.{Narrow, call-within}
@@ -20,11 +19,10 @@ use Rattle.tuple.specs.declared.field.Tuple.{Tuple}
 use Rattle.tuple.specs.declared.field.Call.{Call}
 use Rattle.tuple.specs.Bounds.{places}
 use Rattle.tuple.specs.Fields.{word, count, offset, process_set, largest_of, blank_field}
-use Rattle.tuple.specs.Faults.{is_defined, fields_fault, tuple_fault, part_fault, uses_template, uses_entry, call_fault}
-use Rattle.tuple.specs.Shapes.{field}
+use Rattle.tuple.specs.Faults.{is_defined, fields_fault, part_fault, uses_template, uses_entry, call_fault}
 use Rattle.tuple.proofs.FaultRules.{template-rule, entry-rule}
 use Rattle.tuple.proofs.NoFault.{known-head, PassedField, fields-sound, tuple-sound, call-sound}
-use Rattle.varint.specs.Writing.{bytes_of, width_of}
+use Rattle.varint.specs.Writing.{bytes_of}
 use Rattle.varint.proofs.ReadingLaws.{picked}
 use Rattle.varint.proofs.WritingLaws.{width-of-few}
 

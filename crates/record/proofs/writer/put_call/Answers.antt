@@ -14,10 +14,10 @@ use Rattle.record.proofs.writer.put_call.Goals as goal
 
 -- the template and the entry, as they were written
 template : (c : After-put_part-after_template) → let call = c.args.call in
-    Wrote c.put_number-after_code.new.0 c.put_number-after_code.result (part_bytes (uses_template call.code) call.template) c.put_part-after_template.result c.put_part-after_template.new.buffer
+    Wrote c.put_number-after_code.new.buffer c.put_number-after_code.result (part_bytes (uses_template call.code) call.template) c.put_part-after_template.result c.put_part-after_template.new.buffer
 template c =
     let call = c.args.call in
-    subst (λ (used : Bool). Wrote c.put_number-after_code.new.0 c.put_number-after_code.result (part_bytes used call.template) c.put_part-after_template.result c.put_part-after_template.new.buffer)
+    subst (λ (used : Bool). Wrote c.put_number-after_code.new.buffer c.put_number-after_code.result (part_bytes used call.template) c.put_part-after_template.result c.put_part-after_template.new.buffer)
     c.uses_template.ensures (c.put_part-after_template.ensures.value, c.put_part-after_template.ensures.buffer_after)
 
 entry : (c : After-put_part) → let call = c.args.call in
@@ -28,13 +28,12 @@ entry c =
     c.uses_entry.ensures (c.put_part.ensures.value, c.put_part.ensures.buffer_after)
 
 -- where the template begins, and how long the buffer is there
-behind-code : (c : After-put_number-after_code) → (c.put_number-after_code.result ≡ width_of c.args.call.process + width_of c.args.call.code) × (length c.put_number-after_code.new.0 ≡ length c.args.buffer.now)
-behind-code c =
-    (
-      omega (arith, c.put_number-after_process.ensures.value, c.put_number-after_code.ensures.value),
-      wrote-length c.put_number-after_process.new.0 c.put_number-after_process.result (bytes_of c.args.call.code) (c.put_number-after_code.ensures.value, c.put_number-after_code.ensures.buffer_after)
-          ∙ wrote-length c.args.buffer.now 0 (bytes_of c.args.call.process) (c.put_number-after_process.ensures.value, c.put_number-after_process.ensures.buffer_after),
-    )
+behind-code : (c : After-put_number-after_code) → (c.put_number-after_code.result ≡ width_of c.args.call.process + width_of c.args.call.code) × (length c.put_number-after_code.new.buffer ≡ length c.args.buffer.now)
+behind-code c = (
+  omega (arith, c.put_number-after_process.ensures.value, c.put_number-after_code.ensures.value),
+  wrote-length c.put_number-after_process.new.buffer c.put_number-after_process.result (bytes_of c.args.call.code) (c.put_number-after_code.ensures.value, c.put_number-after_code.ensures.buffer_after)
+      ∙ wrote-length c.args.buffer.now 0 (bytes_of c.args.call.process) (c.put_number-after_process.ensures.value, c.put_number-after_process.ensures.buffer_after),
+)
 
 pub put_number-after_process-requires : goal.put_number-after_process-requires
 put_number-after_process-requires c =
@@ -48,25 +47,31 @@ put_number-after_code-requires c =
 
 pub put_part-after_template-requires : goal.put_part-after_template-requires
 put_part-after_template-requires c =
-    let call = c.args.call in record { writable_part = (λ used. c.requires.writable_call.template (sym c.uses_template.ensures ∙ used)); tuple_in_bounds = omega (
+    let call = c.args.call in record {
+      writable_part = (λ used. c.requires.writable_call.template (sym c.uses_template.ensures ∙ used));
+      tuple_in_bounds = omega (
         arith,
         ap (λ (used : Bool). length (part_bytes used call.template)) c.uses_template.ensures,
         behind-code (goal.at.put_part-after_template-requires c).After-put_number-after_code,
         call_length call,
         c.requires.call_in_bounds,
-      ) }
+      );
+    }
 
 pub put_part-requires : goal.put_part-requires
 put_part-requires c =
-    let call = c.args.call in record { writable_part = (λ used. c.requires.writable_call.entry (sym c.uses_entry.ensures ∙ used)); tuple_in_bounds = omega (
+    let call = c.args.call in record {
+      writable_part = (λ used. c.requires.writable_call.entry (sym c.uses_entry.ensures ∙ used));
+      tuple_in_bounds = omega (
         arith,
         ap (λ (used : Bool). length (part_bytes used call.entry)) c.uses_entry.ensures,
         (template (goal.at.put_part-requires c).After-put_part-after_template).0,
-        wrote-length c.put_number-after_code.new.0 c.put_number-after_code.result (part_bytes (uses_template call.code) call.template) (template (goal.at.put_part-requires c).After-put_part-after_template),
+        wrote-length c.put_number-after_code.new.buffer c.put_number-after_code.result (part_bytes (uses_template call.code) call.template) (template (goal.at.put_part-requires c).After-put_part-after_template),
         behind-code (goal.at.put_part-requires c).After-put_number-after_code,
         call_length call,
         c.requires.call_in_bounds,
-      ) }
+      );
+    }
 
 pub returns : goal.returns
 unfolding call_bytes
@@ -75,5 +80,5 @@ returns c =
     let t = part_bytes (uses_template call.code) call.template in
     let e = part_bytes (uses_entry call.code) call.entry in
     (wrote_then c.args.buffer.now 0 (bytes_of call.process) (bytes_of call.code ++ (t ++ e)) (c.put_number-after_process.ensures.value, c.put_number-after_process.ensures.buffer_after)
-    (wrote_then c.put_number-after_process.new.0 c.put_number-after_process.result (bytes_of call.code) (t ++ e) (c.put_number-after_code.ensures.value, c.put_number-after_code.ensures.buffer_after)
-    (wrote_then c.put_number-after_code.new.0 c.put_number-after_code.result t e (template (goal.at.returns c).After-put_part-after_template) (entry (goal.at.returns c).After-put_part)))).1
+    (wrote_then c.put_number-after_process.new.buffer c.put_number-after_process.result (bytes_of call.code) (t ++ e) (c.put_number-after_code.ensures.value, c.put_number-after_code.ensures.buffer_after)
+    (wrote_then c.put_number-after_code.new.buffer c.put_number-after_code.result t e (template (goal.at.returns c).After-put_part-after_template) (entry (goal.at.returns c).After-put_part)))).1

@@ -12,9 +12,9 @@ use Rattle.record.proofs.writer.put_field.Goals.{After-put_number-place}
 use Rattle.record.proofs.writer.put_field.Goals as goal
 
 -- the head was written
-head : (c : After-put_number-place) → Wrote c.args.buffer.now c.args.at (bytes_of (head_number c.args.field)) c.put_number-place.result c.put_number-place.new.0
+head : (c : After-put_number-place) → Wrote c.args.buffer.now c.args.at (bytes_of (head_number c.args.field)) c.put_number-place.result c.put_number-place.new.buffer
 head c =
-    subst (λ (h : ℕ). Wrote c.args.buffer.now c.args.at (bytes_of h) c.put_number-place.result c.put_number-place.new.0) c.head_number.ensures.value (c.put_number-place.ensures.value, c.put_number-place.ensures.buffer_after)
+    subst (λ (h : ℕ). Wrote c.args.buffer.now c.args.at (bytes_of h) c.put_number-place.result c.put_number-place.new.buffer) c.head_number.ensures.value (c.put_number-place.ensures.value, c.put_number-place.ensures.buffer_after)
 
 pub head_number-requires : goal.head_number-requires
 head_number-requires c = c.requires.writable_field
@@ -25,22 +25,25 @@ put_number-place-requires c =
 
 pub put_number-requires : goal.put_number-requires
 put_number-requires c =
-    let d = eq-eqb c.args.field.state 0 c.if-field-eq-DEFINED.true in record { value_le_largest = c.requires.writable_field.value d; value_in_bounds = omega (
+    let d = eq-eqb c.args.field.state 0 c.if-field-eq-DEFINED.true in record {
+      value_le_largest = c.requires.writable_field.value d;
+      value_in_bounds = omega (
         arith,
         ap length (sym (bytes-defined c.args.field d)),
         length-append (bytes_of (head_number c.args.field)) (bytes_of c.args.field.value),
         (head (goal.at.put_number-requires c).After-put_number-place).0,
         wrote-length c.args.buffer.now c.args.at (bytes_of (head_number c.args.field)) (head (goal.at.put_number-requires c).After-put_number-place),
         c.requires.field_in_bounds,
-      ) }
+      );
+    }
 
 pub returns-then-field-eq-DEFINED : goal.returns-then-field-eq-DEFINED
 returns-then-field-eq-DEFINED c =
     let d = eq-eqb c.args.field.state 0 c.if-field-eq-DEFINED.true in
-    let both = subst (λ (t : List ℕ). Wrote c.args.buffer.now c.args.at t c.put_number.result c.put_number.new.0) (bytes-defined c.args.field d)
+    let both = subst (λ (t : List ℕ). Wrote c.args.buffer.now c.args.at t c.put_number.result c.put_number.new.buffer) (bytes-defined c.args.field d)
     (wrote_then c.args.buffer.now c.args.at (bytes_of (head_number c.args.field)) (bytes_of c.args.field.value) (head (goal.at.returns-then-field-eq-DEFINED c).After-put_number-place) (c.put_number.ensures.value, c.put_number.ensures.buffer_after)) in record { value = both.0; buffer_after = both.1 }
 
 pub returns-else-field-eq-DEFINED : goal.returns-else-field-eq-DEFINED
 returns-else-field-eq-DEFINED c =
-    let both = subst (λ (t : List ℕ). Wrote c.args.buffer.now c.args.at t c.put_number-place.result c.put_number-place.new.0)
+    let both = subst (λ (t : List ℕ). Wrote c.args.buffer.now c.args.at t c.put_number-place.result c.put_number-place.new.buffer)
     (bytes-bare c.args.field (ne_eqb c.args.field.state 0 c.if-field-eq-DEFINED.false)) (head (goal.at.returns-else-field-eq-DEFINED c).After-put_number-place) in record { value = both.0; buffer_after = both.1 }

@@ -28,11 +28,11 @@ returns-in-Beyond c =
     let w = written (goal.at.returns-in-Beyond c).After-write in
     let told = c.in-Beyond.is in
     let z : ◌≡◌ {A = ℕ} 0 1 = cc (w.0, told) in
-    let both = absurd (omega arith) in record { value = both.0; buffer_after = both.1 }
+    absurd (omega arith)
 
 pub returns-in-NoRoom : goal.returns-in-NoRoom
 returns-in-NoRoom c =
     let w = written (goal.at.returns-in-NoRoom c).After-write in
     let told = c.in-NoRoom.is in
     let z : ◌≡◌ {A = ℕ} 0 1 = cc (w.0, told) in
-    let both = absurd (omega arith) in record { value = both.0; buffer_after = both.1 }
+    absurd (omega arith)

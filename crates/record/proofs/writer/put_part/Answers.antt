@@ -12,8 +12,8 @@ put_tuple-requires c =
 pub returns-then-used : goal.returns-then-used
 unfolding part_bytes
 returns-then-used c =
-    record { value = rw c.if-used.true (c.put_tuple.ensures.value, c.put_tuple.ensures.buffer_after).0; buffer_after = rw c.if-used.true (c.put_tuple.ensures.value, c.put_tuple.ensures.buffer_after).1 }
+    record { value = rw c.if-used.true c.put_tuple.ensures.value; buffer_after = rw c.if-used.true c.put_tuple.ensures.buffer_after }
 
 pub returns-else-used : goal.returns-else-used
 unfolding part_bytes
-returns-else-used c = record { value = rw c.if-used.false (omega arith, refl).0; buffer_after = rw c.if-used.false (omega arith, refl).1 }
+returns-else-used c = record { value = rw c.if-used.false (omega arith); buffer_after = rw c.if-used.false refl }

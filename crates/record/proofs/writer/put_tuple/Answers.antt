@@ -1,6 +1,6 @@
 -- `record::writer::put_tuple` meets its contract. The loop's invariant: the buffer with the bytes of the fields left is the buffer with those of all.
 use mathlib.Core.Path.{◌≡◌, refl, sym, ap, ◌∙◌}
-use Prim.Native.Nat.{◌+◌, ◌-◌}
+use Prim.Native.Nat.{◌+◌}
 use native.Mathlib.Omega.{arith}
 use mathlib.Core.List.{◌++◌}
 use lib.ListN.{length, take, drop, get_or, length-append}
@@ -36,7 +36,9 @@ loop-i-init c = (omega arith, refl, refl, refl)
 
 pub put_field-place-requires : goal.put_field-place-requires
 put_field-place-requires c =
-    record { writable_field = c.requires.writable.each c.loop-i.i c.loop-i-test.true; field_in_bounds = omega (
+    record {
+      writable_field = c.requires.writable.each c.loop-i.i c.loop-i-test.true;
+      field_in_bounds = omega (
         arith,
         left-length (goal.at.put_field-place-requires c).In-loop-i,
         tuple-length c.args.tuple,
@@ -45,7 +47,8 @@ put_field-place-requires c =
         c.loop-i.invariant.2,
         c.loop-i.invariant.3,
         c.requires.tuple_in_bounds,
-      ) }
+      );
+    }
 
 pub loop-i-preserved : goal.loop-i-preserved
 loop-i-preserved c =

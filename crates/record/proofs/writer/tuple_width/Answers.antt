@@ -1,6 +1,6 @@
 -- `record::writer::tuple_width` meets its contract. The loop's invariant: the bytes counted and those of the fields left are the tuple's.
 use mathlib.Core.Path.{◌≡◌, refl, ap, ◌∙◌}
-use Prim.Native.Nat.{◌+◌, ◌-◌, ◌≤◌}
+use Prim.Native.Nat.{◌+◌, ◌≤◌}
 use native.Mathlib.Omega.{arith}
 use lib.ListN.{length, take, drop, get_or, length-append, length-take}
 use Rattle.record.specs.Writing.{field_bytes, fields_bytes}

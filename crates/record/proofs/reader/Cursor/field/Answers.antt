@@ -10,7 +10,7 @@ use Rattle.record.specs.declared.reader.ReadField.{ReadField}
 use Rattle.record.specs.Heads.{head_of}
 use Rattle.record.specs.Reading.{no_field, head_step, field_at}
 use Rattle.record.proofs.Steps.{goes_on, stops}
-use Rattle.record.proofs.reader.Cursor.field.Goals.{After-head_of, In-Known}
+use Rattle.record.proofs.reader.Cursor.field.Goals.{After-head_of}
 use Rattle.record.proofs.reader.Cursor.field.Goals as goal
 
 -- what a number gives as a field's head
@@ -33,12 +33,11 @@ head c =
     goes_on (λ (r : ReadNumber). r.next) (go a.entry a.s.now) no_field c.number-head.result _ c.number-head.ensures _ c.in-At.is
     ∙ ap (head_step a.entry a.s.now c.in-At.cursor.at) (sym c.head_of.ensures)
 
-known : (c : In-Known) → let a = c.args in
-    field_at a.entry a.s.now a.self.at
-    ≡ head_step a.entry a.s.now c.in-At.cursor.at (Known c.in-Known.kind c.in-Known.state)
-known c =
+known : (c : After-head_of) (kind state : ℕ) → c.head_of.result ≡ Known kind state → let a = c.args in
+    field_at a.entry a.s.now a.self.at ≡ head_step a.entry a.s.now c.in-At.cursor.at (Known kind state)
+known c kind state is =
     let a = c.args in
-    head c.before.before.before ∙ ap (head_step a.entry a.s.now c.in-At.cursor.at) c.in-Known.is
+    head c ∙ ap (head_step a.entry a.s.now c.in-At.cursor.at) is
 
 pub returns-in_default-head_of : goal.returns-in_default-head_of
 returns-in_default-head_of c =
@@ -48,12 +47,12 @@ returns-in_default-head_of c =
 
 pub returns-then-state-eq-DEFINED : goal.returns-then-state-eq-DEFINED
 returns-then-state-eq-DEFINED c =
-    c.defined.ensures ∙ sym (known (goal.at.returns-then-state-eq-DEFINED c).In-Known ∙ rw (eq-eqb _ _ c.if-state-eq-DEFINED.true))
+    c.defined.ensures ∙ sym (known (goal.at.returns-then-state-eq-DEFINED c).After-head_of _ _ c.in-Known.is ∙ rw (eq-eqb _ _ c.if-state-eq-DEFINED.true))
 
 pub returns-then-entry : goal.returns-then-entry
 returns-then-entry c =
-    c.no_field-then-entry.ensures ∙ sym (known (goal.at.returns-then-entry c).In-Known ∙ rw (ne_eqb _ _ c.if-state-eq-DEFINED.false, c.if-entry.true))
+    c.no_field-then-entry.ensures ∙ sym (known (goal.at.returns-then-entry c).After-head_of _ _ c.in-Known.is ∙ rw (ne_eqb _ _ c.if-state-eq-DEFINED.false, c.if-entry.true))
 
 pub returns : goal.returns
 returns c =
-    sym (known (goal.at.returns c).In-Known ∙ rw (ne_eqb _ _ c.if-state-eq-DEFINED.false, c.if-entry.false))
+    sym (known (goal.at.returns c).After-head_of _ _ c.in-Known.is ∙ rw (ne_eqb _ _ c.if-state-eq-DEFINED.false, c.if-entry.false))

@@ -1,6 +1,6 @@
 -- `record::Cursor::tuple` meets its contract: the count, then the loop, whose invariant says that the fields read and those left give the whole.
 use mathlib.Core.Path.{◌≡◌, refl, sym, ap, ◌∙◌, subst}
-use Prim.Native.Nat.{ℕ, ◌-◌}
+use Prim.Native.Nat.{ℕ, ◌≤◌}
 use mathlib.Core.Bool.{Bool}
 use mathlib.Core.List.{List}
 use lib.ListN.{replicate}
@@ -12,7 +12,7 @@ use Rattle.tuple.specs.declared.field.Field.{Field}
 use Rattle.tuple.specs.Bounds.{places}
 use Rattle.record.proofs.Steps.{goes_on, stops}
 use Rattle.record.proofs.FieldsLaws.{Passed, passed_none, passed-more, passed-stop, passed-all}
-use Rattle.record.proofs.reader.Cursor.tuple.Goals.{Else-value, In-At}
+use Rattle.record.proofs.reader.Cursor.tuple.Goals.{In-At}
 use Rattle.record.proofs.reader.Cursor.tuple.Goals as goal
 
 -- what a number gives as a tuple's field count
@@ -34,10 +34,10 @@ number c =
     let a = c.args in
     goes_on (λ (r : ReadNumber). r.next) (go a.entry a.s.now) no_tuple c.number-read.result _ c.number-read.ensures _ c.in-At.is
 
-counted : (c : Else-value) → let a = c.args in
+counted : (c : In-At) → 1 ≤ c.number-read.result.value → c.number-read.result.value ≤ places → let a = c.args in
     tuple_at a.entry a.s.now a.self.at
     ≡ tuple_step c.number-read.result.value (fields_at a.entry c.number-read.result.value a.s.now c.in-At.start.at)
-counted c = number c.before.before ∙ rw (le-leb 1 _ c.if-value-lt1.false, le-leb _ places c.if-value.false)
+counted c some few = number c ∙ rw (le-leb 1 _ some, le-leb _ places few)
 
 pub returns-then-value-lt1 : goal.returns-then-value-lt1
 returns-then-value-lt1 c =
@@ -61,7 +61,7 @@ returns-in_default-after c =
     let a = c.args in
     c.no_tuple-in_default-after.ensures
     ∙ sym
-    (counted (goal.at.returns-in_default-after c).Else-value
+    (counted (goal.at.returns-in_default-after c).In-At c.if-value-lt1.false c.if-value.false
     ∙ passed-stop a.entry a.s.now c.number-read.result.value c.in-At.start.at c.if-value.false c.loop-i.tuple.fields c.loop-i.cursor.at c.loop-i.i c.loop-i.invariant.1
     c.loop-i-test.true c.field-one.result c.field-one.ensures _ c.in_default-after.is)
 
@@ -77,6 +77,6 @@ pub returns : goal.returns
 returns c =
     let a = c.args in
     sym
-    (counted (goal.at.returns c).Else-value
+    (counted (goal.at.returns c).In-At c.if-value-lt1.false c.if-value.false
     ∙ passed-all a.entry a.s.now c.number-read.result.value c.in-At.start.at c.if-value.false c.loop-i.tuple.fields c.loop-i.cursor.at c.loop-i.i c.loop-i.invariant.1 c.loop-i-test.false
     ∙ ap {B = ReadTuple} (λ (count : ℕ). record { next = place c.loop-i.cursor.at; tuple = record { count = count; fields = c.loop-i.tuple.fields } }) (sym c.loop-i.invariant.0))

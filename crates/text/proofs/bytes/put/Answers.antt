@@ -1,6 +1,5 @@
 -- `text::bytes::put` meets its contract. The loop's invariant: the bytes passed are put.
 use mathlib.Core.Path.{refl}
-use Prim.Native.Nat.{◌-◌}
 use native.Mathlib.Omega.{arith}
 use native.Mathlib.Numerals.{add-one}
 use mathlib.Core.List.{[], ◌∷◌}
@@ -29,4 +28,4 @@ shape_of-out c =
 pub returns : goal.returns
 returns c =
     let all = take_all c.loop-i.i c.args.bytes.now c.loop-i-test.false in
-    record { value = rw all (at c.loop-i.invariant.1).0; out_after = rw all (at c.loop-i.invariant.1).1 }
+    record { value = (rw all at c.loop-i.invariant.1).0; out_after = (rw all at c.loop-i.invariant.1).1 }

@@ -10,12 +10,12 @@ use Rattle.text.proofs.field.put_offset.Goals as goal
 
 pub returns-then-code-eq-BOTTOM : goal.returns-then-code-eq-BOTTOM
 returns-then-code-eq-BOTTOM c =
-    record { value = rw (eq-eqb c.args.code 0 c.if-code-eq-BOTTOM.true) (c.put.ensures.value, c.put.ensures.out_after).0; out_after = rw (eq-eqb c.args.code 0 c.if-code-eq-BOTTOM.true) (c.put.ensures.value, c.put.ensures.out_after).1 }
+    record { value = rw (eq-eqb c.args.code 0 c.if-code-eq-BOTTOM.true) c.put.ensures.value; out_after = rw (eq-eqb c.args.code 0 c.if-code-eq-BOTTOM.true) c.put.ensures.out_after }
 
 pub returns-then-code-eq1 : goal.returns-then-code-eq1
 returns-then-code-eq1 c =
     let code = c.args.code in
-    record { value = rw (ne_eqb code 0 c.if-code-eq-BOTTOM.false, eq-eqb (code % 2) 1 (omega (arith, c.if-code-eq1.true))) (c.put_number.ensures.value, c.put_number.ensures.out_after).0; out_after = rw (ne_eqb code 0 c.if-code-eq-BOTTOM.false, eq-eqb (code % 2) 1 (omega (arith, c.if-code-eq1.true))) (c.put_number.ensures.value, c.put_number.ensures.out_after).1 }
+    record { value = rw (ne_eqb code 0 c.if-code-eq-BOTTOM.false, eq-eqb (code % 2) 1 (omega (arith, c.if-code-eq1.true))) c.put_number.ensures.value; out_after = rw (ne_eqb code 0 c.if-code-eq-BOTTOM.false, eq-eqb (code % 2) 1 (omega (arith, c.if-code-eq1.true))) c.put_number.ensures.out_after }
 
 pub returns : goal.returns
 returns c =

@@ -7,5 +7,5 @@ use Rattle.text.proofs.number.put_number.Goals as goal
 
 pub returns : goal.returns
 returns c =
-    let made : take c.decimal-k.result c.decimal-k.new.1.0 ≡ decimal c.args.n = c.decimal-k.ensures.len.1 ∙ fewest-decimal _ _ c.decimal-k.ensures.len.0 in
-    record { value = rw made (at (c.put.ensures.value, c.put.ensures.out_after)).0; out_after = rw made (at (c.put.ensures.value, c.put.ensures.out_after)).1 }
+    let made : take c.decimal-k.result c.decimal-k.new.out ≡ decimal c.args.n = c.decimal-k.ensures.digits ∙ fewest-decimal _ _ c.decimal-k.ensures.len in
+    record { value = rw made at c.put.ensures.value; out_after = rw made at c.put.ensures.out_after }

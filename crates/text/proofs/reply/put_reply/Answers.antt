@@ -5,15 +5,15 @@ use Rattle.text.proofs.reply.put_reply.Goals as goal
 
 pub returns-in-Done : goal.returns-in-Done
 unfolding outcome_text
-returns-in-Done c = record { value = rw c.in-Done.is (c.put.ensures.value, c.put.ensures.out_after).0; out_after = rw c.in-Done.is (c.put.ensures.value, c.put.ensures.out_after).1 }
+returns-in-Done c = record { value = rw c.in-Done.is c.put.ensures.value; out_after = rw c.in-Done.is c.put.ensures.out_after }
 
 pub returns-in-None : goal.returns-in-None
 unfolding outcome_text
-returns-in-None c = record { value = rw c.in-None.is (c.put-in-None.ensures.value, c.put-in-None.ensures.out_after).0; out_after = rw c.in-None.is (c.put-in-None.ensures.value, c.put-in-None.ensures.out_after).1 }
+returns-in-None c = record { value = rw c.in-None.is c.put-in-None.ensures.value; out_after = rw c.in-None.is c.put-in-None.ensures.out_after }
 
 pub returns-in-Inserted : goal.returns-in-Inserted
 unfolding outcome_text
-returns-in-Inserted c = record { value = rw c.in-Inserted.is (c.put-in-Inserted.ensures.value, c.put-in-Inserted.ensures.out_after).0; out_after = rw c.in-Inserted.is (c.put-in-Inserted.ensures.value, c.put-in-Inserted.ensures.out_after).1 }
+returns-in-Inserted c = record { value = rw c.in-Inserted.is c.put-in-Inserted.ensures.value; out_after = rw c.in-Inserted.is c.put-in-Inserted.ensures.out_after }
 
 pub returns-in-Found : goal.returns-in-Found
 unfolding outcome_text

@@ -1,18 +1,37 @@
 // The text of the script on standard input, on standard output.
 #![tactic(auto)]
 
-use libc::{STDIN_FILENO, STDOUT_FILENO};
+ghost use Rattle.std.specs.Io.{ReadsAtMost};
+
 use script::Printed;
+use std::io;
+use std::io::Read;
 
 // A script, and one byte more, by which a longer one is known.
 const MOST: usize = script::SCRIPT_BYTES + 1;
 
-fn main() {
+fn main(rt: HostRuntime) -> io::Result<()> {
     let mut input = [0u8; MOST];
-    let n = io::read_full(STDIN_FILENO, &mut input);
+    let n = read_full(&mut rt.reader(), &mut input)?;
     let mut text = script::blank();
     let printed = script::print(&input[..n], &mut text);
     if let Printed::Length(length) = printed {
-        io::write_all(STDOUT_FILENO, &text[..length]);
+        rt.write_all(&text[..length])?;
     }
+    Ok(())
+}
+
+// Reads until buffer is full or the input ends, and answers how many bytes were put at its start.
+fn read_full(input: &mut impl Read, buffer: &mut [u8]) -> io::Result<usize>
+    ensures { ReadsAtMost result buffer.new }
+{
+    let mut done = 0;
+    while done < buffer.len() {
+        let n = input.read(&mut buffer[done..])?;
+        if n == 0 {
+            break;
+        }
+        done += n;
+    }
+    Ok(done)
 }

@@ -2,11 +2,11 @@
 use crate::lines::write_label;
 use crate::making::{open, quiet_out};
 use crate::tuples::proposal;
-use libc::STDOUT_FILENO;
 use space::{Sought, Space, crowded, crowded_in, every_in, every_proposed, is_taken, taken_in};
+use std::io;
 
 // Processes 1 to 3 have proposed in round 0, two of them -40 and one 40.
-pub(crate) fn questions() {
+pub(crate) fn questions(rt: &impl Print) -> io::Result<()> {
     let labels: &[u8] = b"\
         asked, 1 has proposed\n\
         asked, 4 has proposed\n\
@@ -19,58 +19,80 @@ pub(crate) fn questions() {
     let mut board = quiet_out(open(4, 1, 2), 1, proposal(1, 80));
     board = quiet_out(board, 2, proposal(2, 81));
     board = quiet_out(board, 3, proposal(3, 80));
-    taken(labels, 1, board, 1);
-    taken(labels, 2, board, 4);
-    every(labels, 3, board, Sought::One(80), 3);
-    every(labels, 4, board, Sought::One(80), 5);
-    every(labels, 5, board, Sought::Some, 7);
-    every(labels, 6, board, Sought::Some, 15);
-    crowd(labels, 7, board, 3);
-    crowd(labels, 8, board, 5);
+    taken(rt, labels, 1, board, 1)?;
+    taken(rt, labels, 2, board, 4)?;
+    every(rt, labels, 3, board, Sought::One(80), 3)?;
+    every(rt, labels, 4, board, Sought::One(80), 5)?;
+    every(rt, labels, 5, board, Sought::Some, 7)?;
+    every(rt, labels, 6, board, Sought::Some, 15)?;
+    crowd(rt, labels, 7, board, 3)?;
+    crowd(rt, labels, 8, board, 5)
 }
 
-fn taken(labels: &[u8], number: usize, board: Space, process: u64) {
+fn taken(
+    rt: &impl Print,
+    labels: &[u8],
+    number: usize,
+    board: Space,
+    process: u64,
+) -> io::Result<()> {
     let config = board.config;
     both(
+        rt,
         labels,
         number,
         is_taken(board, 0, process),
         taken_in(config, &board.table, 0, process),
-    );
+    )
 }
 
-fn every(labels: &[u8], number: usize, board: Space, sought: Sought, set: u64) {
+fn every(
+    rt: &impl Print,
+    labels: &[u8],
+    number: usize,
+    board: Space,
+    sought: Sought,
+    set: u64,
+) -> io::Result<()> {
     let config = board.config;
     both(
+        rt,
         labels,
         number,
         every_proposed(board, sought, 0, set),
         every_in(config, &board.table, sought, 0, set),
-    );
+    )
 }
 
-fn crowd(labels: &[u8], number: usize, board: Space, set: u64) {
+fn crowd(rt: &impl Print, labels: &[u8], number: usize, board: Space, set: u64) -> io::Result<()> {
     let config = board.config;
     both(
+        rt,
         labels,
         number,
         crowded(board, 0, set),
         crowded_in(config, &board.table, 0, set),
-    );
+    )
 }
 
 // A label and both answers.
-fn both(labels: &[u8], number: usize, searched: bool, tabled: bool) {
-    write_label(labels, number);
-    said(searched);
-    said(tabled);
-    io::write_all(STDOUT_FILENO, b"\n");
+fn both(
+    rt: &impl Print,
+    labels: &[u8],
+    number: usize,
+    searched: bool,
+    tabled: bool,
+) -> io::Result<()> {
+    write_label(rt, labels, number)?;
+    said(rt, searched)?;
+    said(rt, tabled)?;
+    rt.write_all(b"\n")
 }
 
-fn said(answer: bool) {
+fn said(rt: &impl Print, answer: bool) -> io::Result<()> {
     if answer {
-        io::write_all(STDOUT_FILENO, b" yes");
+        rt.write_all(b" yes")
     } else {
-        io::write_all(STDOUT_FILENO, b" no");
+        rt.write_all(b" no")
     }
 }

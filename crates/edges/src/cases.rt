@@ -3,10 +3,11 @@ use crate::lines::count_line;
 use crate::making::{decide, make, open, quiet_out, set_up};
 use crate::tuples::{any_word, asking, asking_weak, late_proposal, pair, proposal, weak, words};
 use space::{PLACES, Space};
+use std::io;
 use tuple::{CAS, OFFSET, OUT, PROCESS_SET, RDP, Tuple, WORD};
 
 // The seven calls of the worked script.
-pub(crate) fn script() {
+pub(crate) fn script(rt: &impl Print) -> io::Result<()> {
     let labels: &[u8] = b"\
         script 1\n\
         script 2\n\
@@ -18,18 +19,18 @@ pub(crate) fn script() {
         script tuples";
     let blank = Tuple::blank();
     let mut board = open(4, 1, 2);
-    board = make(labels, 1, board, 1, OUT, blank, proposal(1, 80));
-    board = make(labels, 2, board, 2, OUT, blank, proposal(2, 81));
-    board = make(labels, 3, board, 3, OUT, blank, proposal(3, 80));
-    board = decide(labels, 4, board, 4, 81, 2);
-    board = decide(labels, 5, board, 1, 80, 5);
-    board = make(labels, 6, board, 2, RDP, asking(), blank);
-    board = make(labels, 7, board, 5, RDP, any_word(), blank);
-    count_line(labels, 8, board.count);
+    board = make(rt, labels, 1, board, 1, OUT, blank, proposal(1, 80))?;
+    board = make(rt, labels, 2, board, 2, OUT, blank, proposal(2, 81))?;
+    board = make(rt, labels, 3, board, 3, OUT, blank, proposal(3, 80))?;
+    board = decide(rt, labels, 4, board, 4, 81, 2)?;
+    board = decide(rt, labels, 5, board, 1, 80, 5)?;
+    board = make(rt, labels, 6, board, 2, RDP, asking(), blank)?;
+    board = make(rt, labels, 7, board, 5, RDP, any_word(), blank)?;
+    count_line(rt, labels, 8, board.count)
 }
 
 // Configurations, numbers of fields, and process sets.
-pub(crate) fn limits() {
+pub(crate) fn limits(rt: &impl Print) -> io::Result<()> {
     let labels: &[u8] = b"\
         set-up 4 1\n\
         set-up 3 1\n\
@@ -38,14 +39,15 @@ pub(crate) fn limits() {
         field count 7\n\
         seats 2147483647\n\
         seats 2147483648";
-    set_up(labels, 1, 4, 1);
-    set_up(labels, 2, 3, 1);
-    set_up(labels, 3, 1, 0);
+    set_up(rt, labels, 1, 4, 1)?;
+    set_up(rt, labels, 2, 3, 1)?;
+    set_up(rt, labels, 3, 1, 0)?;
     let blank = Tuple::blank();
     let board = open(4, 1, 0);
-    make(labels, 4, board, 1, OUT, blank, words(6));
-    make(labels, 5, board, 1, OUT, blank, words(7));
+    make(rt, labels, 4, board, 1, OUT, blank, words(6))?;
+    make(rt, labels, 5, board, 1, OUT, blank, words(7))?;
     make(
+        rt,
         labels,
         6,
         board,
@@ -53,8 +55,9 @@ pub(crate) fn limits() {
         OUT,
         blank,
         pair(PROCESS_SET, 2_147_483_647),
-    );
+    )?;
     make(
+        rt,
         labels,
         7,
         board,
@@ -62,11 +65,12 @@ pub(crate) fn limits() {
         OUT,
         blank,
         pair(PROCESS_SET, 2_147_483_648),
-    );
+    )?;
+    Ok(())
 }
 
 // A cas of bottom.
-pub(crate) fn bottom() {
+pub(crate) fn bottom(rt: &impl Print) -> io::Result<()> {
     let labels: &[u8] = b"\
         t 0 proposal\n\
         t 0 bottom\n\
@@ -75,6 +79,7 @@ pub(crate) fn bottom() {
         bottom with bottom proposed";
     // With t = 0 every proposal of a member is one by more than t members.
     let one = make(
+        rt,
         labels,
         1,
         open(1, 0, 2),
@@ -82,37 +87,39 @@ pub(crate) fn bottom() {
         OUT,
         Tuple::blank(),
         proposal(1, 80),
-    );
-    decide(labels, 2, one, 1, 0, 1);
+    )?;
+    decide(rt, labels, 2, one, 1, 0, 1)?;
     // On proposals of three offsets by processes 1, 2 and 3.
     let board = quiet_out(proposed(80, 81), 3, proposal(3, 82));
-    decide(labels, 3, board, 1, 0, 7);
+    decide(rt, labels, 3, board, 1, 0, 7)?;
     // Spaces handed in that are not well formed: one that holds a proposal of process 1 twice, and one in which process 3 has proposed nothing but bottom.
     let mut twice = board;
     twice.count = 4;
     twice.tuples[3] = proposal(1, 80);
-    decide(labels, 4, twice, 1, 0, 7);
+    decide(rt, labels, 4, twice, 1, 0, 7)?;
     let mut without = board;
     without.tuples[2] = proposal(3, 0);
     without.table[2] = 0;
-    decide(labels, 5, without, 1, 0, 7);
+    decide(rt, labels, 5, without, 1, 0, 7)?;
+    Ok(())
 }
 
 // A space handed in on which process 1 stands twice: it has proposed -40 and 40, process 2 has proposed 40 and process 3 -41. Such a space is not well formed.
-pub(crate) fn two_offsets() {
+pub(crate) fn two_offsets(rt: &impl Print) -> io::Result<()> {
     let labels: &[u8] = b"\
         two offsets, bottom\n\
         two offsets, 40 by both";
     let mut board = quiet_out(proposed(80, 81), 3, proposal(3, 82));
     board.count = 4;
     board.tuples[3] = proposal(1, 81);
-    decide(labels, 1, board, 1, 0, 7);
-    decide(labels, 2, board, 1, 81, 3);
+    decide(rt, labels, 1, board, 1, 0, 7)?;
+    decide(rt, labels, 2, board, 1, 81, 3)?;
+    Ok(())
 }
 
 // A cas of bottom under policy 1: it is denied on a free and on a decided round. On a space handed in that holds a decided bottom, a good cas
 // is held with it.
-pub(crate) fn weak_bottom() {
+pub(crate) fn weak_bottom(rt: &impl Print) -> io::Result<()> {
     let labels: &[u8] = b"\
         weak bottom, free\n\
         weak offset\n\
@@ -121,11 +128,12 @@ pub(crate) fn weak_bottom() {
     let asked = asking_weak();
     let bottom = weak(0);
     let offset = weak(80);
-    let mut board = make(labels, 1, open(4, 1, 1), 1, CAS, asked, bottom);
-    board = make(labels, 2, board, 1, CAS, asked, offset);
-    board = make(labels, 3, board, 2, CAS, asked, bottom);
+    let mut board = make(rt, labels, 1, open(4, 1, 1), 1, CAS, asked, bottom)?;
+    board = make(rt, labels, 2, board, 1, CAS, asked, offset)?;
+    board = make(rt, labels, 3, board, 2, CAS, asked, bottom)?;
     board.tuples[0] = bottom;
-    make(labels, 4, board, 2, CAS, asked, offset);
+    make(rt, labels, 4, board, 2, CAS, asked, offset)?;
+    Ok(())
 }
 
 // A space on which processes 1 and 2 have proposed.
@@ -134,7 +142,7 @@ fn proposed(first: u64, second: u64) -> Space {
     quiet_out(board, 2, proposal(2, second))
 }
 
-pub(crate) fn capacity() {
+pub(crate) fn capacity(rt: &impl Print) -> io::Result<()> {
     let labels: &[u8] = b"\
         out 256\n\
         out 257\n\
@@ -143,10 +151,11 @@ pub(crate) fn capacity() {
     let blank = Tuple::blank();
     let six = words(6);
     let board = filled(open(1, 0, 0), six, 255);
-    let full = make(labels, 1, board, 1, OUT, blank, six);
-    make(labels, 2, full, 1, OUT, blank, six);
-    make(labels, 3, full, 1, CAS, six, six);
-    make(labels, 4, full, 1, CAS, pair(WORD, 8), six);
+    let full = make(rt, labels, 1, board, 1, OUT, blank, six)?;
+    make(rt, labels, 2, full, 1, OUT, blank, six)?;
+    make(rt, labels, 3, full, 1, CAS, six, six)?;
+    make(rt, labels, 4, full, 1, CAS, pair(WORD, 8), six)?;
+    Ok(())
 }
 
 // The space after as many outs of a tuple.
@@ -162,7 +171,7 @@ fn filled(space: Space, entry: Tuple, times: u32) -> Space {
 
 // Spaces handed in that are not well formed: whatever is called is refused 1. Such a call leaves a space as it was, so that one whose n is set
 // right obeys the next.
-pub(crate) fn not_well_formed() {
+pub(crate) fn not_well_formed(rt: &impl Print) -> io::Result<()> {
     let labels: &[u8] = b"\
         not well formed, 3 1\n\
         not well formed, 3 1 and seven fields\n\
@@ -182,51 +191,60 @@ pub(crate) fn not_well_formed() {
     let own = proposal(1, 80);
     let mut board = open(4, 1, 2);
     board.config.n = 3;
-    board = make(labels, 1, board, 1, OUT, blank, own);
-    board = make(labels, 2, board, 1, OUT, blank, words(7));
+    board = make(rt, labels, 1, board, 1, OUT, blank, own)?;
+    board = make(rt, labels, 2, board, 1, OUT, blank, words(7))?;
     board.config.n = 4;
-    make(labels, 3, board, 1, OUT, blank, own);
+    make(rt, labels, 3, board, 1, OUT, blank, own)?;
     let mut unknown = open(4, 1, 2);
     unknown.config.policy = 6;
-    make(labels, 4, unknown, 1, RDP, asking(), blank);
+    make(rt, labels, 4, unknown, 1, RDP, asking(), blank)?;
     let mut full = filled(open(1, 0, 0), own, 256);
     full.count = 257;
-    make(labels, 5, full, 1, RDP, asking(), blank);
-    held_first(labels, 6, asking());
-    held_first(labels, 7, pair(OFFSET, 200_002));
+    make(rt, labels, 5, full, 1, RDP, asking(), blank)?;
+    held_first(rt, labels, 6, asking())?;
+    held_first(rt, labels, 7, pair(OFFSET, 200_002))?;
     let mut dirty = open(4, 1, 2);
     dirty.tuples[255] = own;
-    make(labels, 8, dirty, 1, RDP, asking(), blank);
+    make(rt, labels, 8, dirty, 1, RDP, asking(), blank)?;
     // The table of the space's proposals, of which the first is process 1's.
     let two = proposed(80, 81);
-    with_code(labels, 9, two, 0, 81);
-    with_code(labels, 10, two, 0, 0);
-    with_code(labels, 11, two, 2, 80);
-    with_code(labels, 12, open(1, 0, 0), 0, 80);
+    with_code(rt, labels, 9, two, 0, 81)?;
+    with_code(rt, labels, 10, two, 0, 0)?;
+    with_code(rt, labels, 11, two, 2, 80)?;
+    with_code(rt, labels, 12, open(1, 0, 0), 0, 80)?;
     // What has no place in it does not disturb.
-    held_first(labels, 13, proposal(5, 80));
-    held_first(labels, 14, late_proposal(1, 80));
+    held_first(rt, labels, 13, proposal(5, 80))?;
+    held_first(rt, labels, 14, late_proposal(1, 80))
 }
 
 // Makes an rdp on a space handed in with another code at a place of its table.
-fn with_code(labels: &[u8], number: usize, space: Space, place: usize, code: u64) {
+fn with_code(
+    rt: &impl Print,
+    labels: &[u8],
+    number: usize,
+    space: Space,
+    place: usize,
+    code: u64,
+) -> io::Result<()> {
     let mut board = space;
     if place < PLACES {
         board.table[place] = code;
     }
-    make(labels, number, board, 1, RDP, asking(), Tuple::blank());
+    make(rt, labels, number, board, 1, RDP, asking(), Tuple::blank())?;
+    Ok(())
 }
 
 // Makes an rdp on a space handed in that holds one tuple.
-fn held_first(labels: &[u8], number: usize, tuple: Tuple) {
+fn held_first(rt: &impl Print, labels: &[u8], number: usize, tuple: Tuple) -> io::Result<()> {
     let mut board = open(4, 1, 2);
     board.count = 1;
     board.tuples[0] = tuple;
-    make(labels, number, board, 1, RDP, asking(), Tuple::blank());
+    make(rt, labels, number, board, 1, RDP, asking(), Tuple::blank())?;
+    Ok(())
 }
 
 // What a slip would get wrong.
-pub(crate) fn slips() {
+pub(crate) fn slips(rt: &impl Print) -> io::Result<()> {
     let labels: &[u8] = b"\
         slip signs -40\n\
         slip signs 40\n\
@@ -240,23 +258,24 @@ pub(crate) fn slips() {
         slip bad cas again";
     // 40 and -40 are two offsets.
     let signs = proposed(80, 81);
-    decide(labels, 1, signs, 1, 80, 3);
-    decide(labels, 2, signs, 1, 81, 3);
+    decide(rt, labels, 1, signs, 1, 80, 3)?;
+    decide(rt, labels, 2, signs, 1, 81, 3)?;
     // Bottom is not offset 0.
     let blank = Tuple::blank();
     let bottom = pair(OFFSET, 0);
     let holds = quiet_out(open(1, 0, 0), 1, bottom);
-    make(labels, 3, holds, 1, RDP, pair(OFFSET, 1), blank);
-    make(labels, 4, holds, 1, RDP, bottom, blank);
+    make(rt, labels, 3, holds, 1, RDP, pair(OFFSET, 1), blank)?;
+    make(rt, labels, 4, holds, 1, RDP, bottom, blank)?;
     // A process that proposes twice is one process.
     let mut board = quiet_out(open(4, 1, 2), 1, proposal(1, 80));
-    board = make(labels, 5, board, 1, OUT, blank, proposal(1, 80));
-    board = decide(labels, 6, board, 1, 80, 1);
+    board = make(rt, labels, 5, board, 1, OUT, blank, proposal(1, 80))?;
+    board = decide(rt, labels, 6, board, 1, 80, 1)?;
     board = quiet_out(board, 2, proposal(2, 80));
     // 3t + 1 exceeds a u64.
-    set_up(labels, 7, 1, 0x5555_5555_5555_5555);
+    set_up(rt, labels, 7, 1, 0x5555_5555_5555_5555)?;
     // A good cas on a decided round is held; a bad one is denied.
-    board = decide(labels, 8, board, 1, 80, 3);
-    board = decide(labels, 9, board, 2, 80, 3);
-    decide(labels, 10, board, 2, 80, 1);
+    board = decide(rt, labels, 8, board, 1, 80, 3)?;
+    board = decide(rt, labels, 9, board, 2, 80, 3)?;
+    decide(rt, labels, 10, board, 2, 80, 1)?;
+    Ok(())
 }

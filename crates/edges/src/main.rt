@@ -8,14 +8,16 @@ mod lines;
 mod making;
 mod tuples;
 
-fn main() {
-    cases::script();
-    cases::limits();
-    cases::bottom();
-    cases::two_offsets();
-    cases::weak_bottom();
-    cases::capacity();
-    cases::not_well_formed();
-    cases::slips();
-    asking::questions();
+use std::io;
+
+fn main(rt: HostRuntime) -> io::Result<()> {
+    cases::script(&rt)?;
+    cases::limits(&rt)?;
+    cases::bottom(&rt)?;
+    cases::two_offsets(&rt)?;
+    cases::weak_bottom(&rt)?;
+    cases::capacity(&rt)?;
+    cases::not_well_formed(&rt)?;
+    cases::slips(&rt)?;
+    asking::questions(&rt)
 }

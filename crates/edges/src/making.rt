@@ -1,8 +1,8 @@
 // Opening spaces and making calls on them.
 use crate::lines::{refusal_line, reply_line, write_label};
 use crate::tuples::{asking, decision};
-use libc::STDOUT_FILENO;
 use space::{Config, Opening, Space};
+use std::io;
 use tuple::{CAS, Call, OUT, Tuple};
 
 pub(crate) fn open(n: u64, t: u64, policy: u64) -> Space {
@@ -11,7 +11,13 @@ pub(crate) fn open(n: u64, t: u64, policy: u64) -> Space {
 }
 
 // Whether a space stands under policy 2, as a line.
-pub(crate) fn set_up(labels: &[u8], number: usize, n: u64, t: u64) {
+pub(crate) fn set_up(
+    rt: &impl Print,
+    labels: &[u8],
+    number: usize,
+    n: u64,
+    t: u64,
+) -> io::Result<()> {
     let opened = space::fresh(Config {
         n,
         t,
@@ -21,15 +27,16 @@ pub(crate) fn set_up(labels: &[u8], number: usize, n: u64, t: u64) {
     let opening = opened.opening;
     match opening {
         Opening::Stands => {
-            write_label(labels, number);
-            io::write_all(STDOUT_FILENO, b" stands\n");
+            write_label(rt, labels, number)?;
+            rt.write_all(b" stands\n")
         }
-        Opening::Unopened(refusal) => refusal_line(labels, number, refusal),
+        Opening::Unopened(refusal) => refusal_line(rt, labels, number, refusal),
     }
 }
 
 // Makes a call, prints its line and hands the space on.
 pub(crate) fn make(
+    rt: &impl Print,
     labels: &[u8],
     number: usize,
     space: Space,
@@ -37,7 +44,7 @@ pub(crate) fn make(
     code: u32,
     template: Tuple,
     entry: Tuple,
-) -> Space {
+) -> io::Result<Space> {
     let call = Call {
         process,
         code,
@@ -46,20 +53,22 @@ pub(crate) fn make(
     };
     let applied = calls::apply(space, call);
     let reply = applied.reply;
-    reply_line(labels, number, reply);
-    applied.space
+    reply_line(rt, labels, number, reply)?;
+    Ok(applied.space)
 }
 
 // Makes a process's cas of a decision.
 pub(crate) fn decide(
+    rt: &impl Print,
     labels: &[u8],
     number: usize,
     space: Space,
     process: u32,
     code: u64,
     set: u64,
-) -> Space {
+) -> io::Result<Space> {
     make(
+        rt,
         labels,
         number,
         space,

@@ -8,15 +8,17 @@ mod stray;
 
 use cases::{SILENT, bottom, full, held, late, run};
 use schedule::PASSES;
+use std::io;
 use stray::Strays;
 
-fn main() {
-    default();
-    late();
-    held();
-    bottom();
+fn main(rt: HostRuntime) -> io::Result<()> {
+    default(&rt)?;
+    late(&rt)?;
+    held(&rt)?;
+    bottom(&rt)?;
     // A process by itself.
     run(
+        &rt,
         b"one",
         1,
         0,
@@ -25,15 +27,16 @@ fn main() {
         [-40, 0, 0, 0, 0, 0, 0, 0],
         PASSES,
         Strays::Nobody,
-    );
-    full();
-    choices();
+    )?;
+    full(&rt)?;
+    choices(&rt)
 }
 
 // Cases of policy 2 in which all begin at once.
-fn default() {
+fn default(rt: &impl Print) -> io::Result<()> {
     // Process 4 is faulty.
     run(
+        rt,
         b"stray",
         4,
         1,
@@ -42,9 +45,10 @@ fn default() {
         [40, 40, -40, SILENT, 0, 0, 0, 0],
         PASSES,
         Strays::Denied,
-    );
+    )?;
     // No offset is proposed twice.
     run(
+        rt,
         b"split",
         4,
         1,
@@ -53,9 +57,10 @@ fn default() {
         [-100_000, 0, 100_000, -1, 0, 0, 0, 0],
         PASSES,
         Strays::Nobody,
-    );
+    )?;
     // Two offsets that differ in sign only.
     run(
+        rt,
         b"signs",
         4,
         1,
@@ -64,13 +69,15 @@ fn default() {
         [40, -40, 40, -40, 0, 0, 0, 0],
         PASSES,
         Strays::Nobody,
-    );
+    )?;
+    Ok(())
 }
 
 // The cases of policy 3.
-fn choices() {
+fn choices(rt: &impl Print) -> io::Result<()> {
     // Processes 1 and 9 are faulty, and split the vote.
     run(
+        rt,
         b"choices",
         9,
         2,
@@ -79,9 +86,10 @@ fn choices() {
         [SILENT, 0, 1, 2, 0, 1, 2, 2],
         PASSES,
         Strays::Choices,
-    );
+    )?;
     // They are silent, and only the seventh proposal that is found settles it.
     run(
+        rt,
         b"seventh",
         9,
         2,
@@ -90,9 +98,10 @@ fn choices() {
         [SILENT, 0, 1, 2, 0, 1, 2, 2],
         PASSES,
         Strays::Nobody,
-    );
+    )?;
     // Fifteen, and two choices.
     run(
+        rt,
         b"pair",
         15,
         4,
@@ -101,9 +110,10 @@ fn choices() {
         [0, 1, 0, 1, 0, 1, 0, 1],
         PASSES,
         Strays::Nobody,
-    );
+    )?;
     // Thirty-one, of which eight are silent, and two choices: only the twenty-first proposal that is found settles it.
     run(
+        rt,
         b"wide",
         31,
         10,
@@ -112,5 +122,6 @@ fn choices() {
         [SILENT, 0, 1, 0, SILENT, 1, 0, 1],
         PASSES,
         Strays::Nobody,
-    );
+    )?;
+    Ok(())
 }

@@ -3,6 +3,7 @@ ghost use Rattle.std.specs.Prelude.{◌<◌};
 
 use crate::show::{end, line, text};
 use script::SCRIPT_BYTES;
+use std::io;
 
 const TOO_LONG: usize = SCRIPT_BYTES + 1;
 
@@ -10,17 +11,17 @@ const TOO_LONG: usize = SCRIPT_BYTES + 1;
 const RECORD: [u8; 4] = [1, 2, 1, 5];
 
 // The first record is all zeros, and can't be read.
-pub(crate) fn unread() {
+pub(crate) fn unread(rt: &impl Print) -> io::Result<()> {
     let mut script = [0u8; TOO_LONG];
     script[0] = 1;
-    line(b"65,536 bytes");
-    text(&script[..SCRIPT_BYTES]);
-    line(b"65,537 bytes");
-    text(&script);
+    line(rt, b"65,536 bytes")?;
+    text(rt, &script[..SCRIPT_BYTES])?;
+    line(rt, b"65,537 bytes")?;
+    text(rt, &script)
 }
 
 // Records to the end of 65,536 bytes, the last of them cut: the last two lines.
-pub(crate) fn full() {
+pub(crate) fn full(rt: &impl Print) -> io::Result<()> {
     let mut script = [0u8; SCRIPT_BYTES];
     script[0] = 1;
     let mut i = 3;
@@ -28,20 +29,20 @@ pub(crate) fn full() {
         script[i] = RECORD[(i - 3) % 4];
         i += 1;
     }
-    line(b"65,536 bytes of records");
-    end(&script, 25);
+    line(rt, b"65,536 bytes of records")?;
+    end(rt, &script, 25)
 }
 
 // The longest text that is known: a tuple of six counts of twenty digits, found 7,273 times. How long it is, and its last three lines.
-pub(crate) fn longest() {
+pub(crate) fn longest(rt: &impl Print) -> io::Result<()> {
     let mut script = [0u8; SCRIPT_BYTES];
     let mut i = 0;
     while i < SCRIPT_BYTES {
         script[i] = longest_byte(i);
         i += 1;
     }
-    line(b"65,536 bytes of found counts");
-    end(&script, 39);
+    line(rt, b"65,536 bytes of found counts")?;
+    end(rt, &script, 39)
 }
 
 // n is 31, t is 10, and the policy is bare; seat 1, out, six fields

@@ -6,12 +6,14 @@ mod hex;
 mod made;
 mod show;
 
-fn main() {
+use std::io;
+
+fn main(rt: HostRuntime) -> io::Result<()> {
     let mut list = [0u8; 4096];
-    let n = case::load(b"list", &mut list);
-    case::named(&list[..n]);
-    case::cuts();
-    made::unread();
-    made::full();
-    made::longest();
+    let n = case::load(&rt, b"list", &mut list)?;
+    case::named(&rt, &list[..n])?;
+    case::cuts(&rt)?;
+    made::unread(&rt)?;
+    made::full(&rt)?;
+    made::longest(&rt)
 }

@@ -14,7 +14,6 @@ use Rattle.space.specs.declared.announcement.Announced.{Announced}
 use Rattle.space.specs.declared.announcement.Announced.TheVariants.{Shift, Silent}
 use Rattle.space.specs.Announcements.{is_announcement, announcer_of, announced_serial, announced_code, announces, announced_of, Announcing, Oldest}
 use Rattle.space.specs.Laws.{AnnouncementRule, AnnouncedRules}
-use Rattle.space.proofs.ShapeLaws.{four}
 use Rattle.space.proofs.SpaceRules.{stands}
 use Rattle.tuple.specs.declared.field.Field.{Field}
 use Rattle.tuple.specs.declared.field.Tuple.{Tuple}

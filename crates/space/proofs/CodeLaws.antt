@@ -1,10 +1,10 @@
 -- What may be proposed may be decided, under policy 2 bottom too, and what may be decided is an offset's code. From the definitions of both.
 use mathlib.Core.Path.{◌≡◌, refl}
 use mathlib.Core.Logic.{◌↔◌}
-use mathlib.Core.Bool.{true, not, or-true, ◌&&◌, ◌||◌, and-eq-true_iff}
+use mathlib.Core.Bool.{true, not, or-true, ◌&&◌, and-eq-true_iff}
 use Prim.Native.Nat.{ℕ, ◌/◌, ◌%◌, ◌≤◌, ◌<◌}
 use native.Mathlib.Omega.{arith}
-use lib.Dec.{leb, ltb, eqb}
+use lib.Dec.{leb, eqb}
 use borrow.Author.Tests.{leb-true, le-leb, ltb-true, lt-ltb, eqb-true, eqb-false, eq-eqb, ne_eqb, not-true}
 use borrow.Table.Steps.{cases}
 use Rattle.space.specs.declared.config.Config.{Config}

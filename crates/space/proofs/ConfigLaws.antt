@@ -2,16 +2,16 @@
 use mathlib.Core.Path.{◌≡◌, refl}
 use mathlib.Core.Logic.{◌↔◌, inl, inr, ⊎_elim}
 use mathlib.Core.Bool.{true, ◌&&◌, or-true, and-eq-true_iff}
-use Prim.Native.Nat.{ℕ, ◌+◌, ◌*◌, ◌≤◌}
+use Prim.Native.Nat.{◌+◌, ◌*◌, ◌≤◌}
 use native.Mathlib.Nat.{mul-le-mul_right}
 use native.Mathlib.Omega.{arith}
 use lib.Dec.{leb, eqb}
-use borrow.Author.Tests.{leb-true, le-leb, eqb-true, eqb-false, eq-eqb, ne_eqb}
+use borrow.Author.Tests.{leb-true, le-leb, eqb-true, eqb-false, eq-eqb}
 use borrow.Table.Steps.{cases}
 use Rattle.space.specs.declared.config.Config.{Config}
 use Rattle.space.specs.Bounds.{processes, last_policy, fewest_choices, most_choices}
 use Rattle.space.specs.Configs.{choice_sound, plain_sound, sound, has_proposals, has_list}
-use Rattle.space.specs.Laws.{SoundRule, Sound, MostFaulty, ProposalsRule, HasListRule}
+use Rattle.space.specs.Laws.{SoundRule, MostFaulty, ProposalsRule, HasListRule}
 
 choice-sound-rule : (config : Config)
     → (choice_sound config ≡ true) ↔ ((fewest_choices ≤ config.k) × (config.k ≤ most_choices) × ((config.k + 1) * config.t + 1 ≤ config.n))

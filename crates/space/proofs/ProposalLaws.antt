@@ -1,7 +1,7 @@
 -- What may be proposed and decided, who has proposed what, and how many: the laws in document 01's words, from the definitions of proposals and the laws of sets.
 use mathlib.Core.Path.{◌≡◌, refl, sym, ap, ◌∙◌}
 use mathlib.Core.Logic.{◌↔◌, inl, inr}
-use mathlib.Core.Bool.{true, false, false≢true, not, or-true, or-false, and-false, and-eq-true_iff}
+use mathlib.Core.Bool.{true, false≢true, or-true, or-false, and-false, and-eq-true_iff}
 use mathlib.Core.List.Memᴰ
 use mathlib.Core.List.{List, [], ◌∷◌, Memᴰ}
 use Prim.Native.Nat.{ℕ, ◌+◌, ◌*◌, ◌/◌, ◌%◌, ◌≤◌, ◌<◌}
@@ -9,7 +9,7 @@ use native.Mathlib.Omega.{arith}
 use lib.Count.{ones}
 use lib.Dec.{ltb, eqb}
 use lib.IntN.{pos, negsuc}
-use borrow.Author.Tests.{ltb-true, ltb-false, leb-true, eqb-true, eqb-false, lt-ltb, le-leb, eq-eqb, ne_eqb}
+use borrow.Author.Tests.{ltb-true, ltb-false, eqb-true, eqb-false, lt-ltb, eq-eqb, ne_eqb}
 use borrow.Table.Steps.{cases}
 use Rattle.space.specs.declared.config.Config.{Config}
 use Rattle.space.specs.declared.proposal.Sought.{Sought}
@@ -25,7 +25,6 @@ use Rattle.space.proofs.TallyLaws.{tally-rule, same_set}
 use Rattle.tuple.specs.declared.field.Tuple.{Tuple}
 use Rattle.tuple.specs.declared.offset.Offset.{Offset}
 use Rattle.tuple.specs.declared.offset.Offset.TheVariants.{Bottom, Hundredths}
-use Rattle.tuple.specs.Bounds.{largest_code}
 use Rattle.tuple.specs.Offsets.{bottom, code_of, offset_of}
 use Rattle.tuple.proofs.OffsetLaws.{one-to-one}
 

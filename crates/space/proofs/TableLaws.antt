@@ -1,13 +1,13 @@
 -- The table of some tuples: what stands at its places, and that from it the questions about proposals are answered as by a search.
 use mathlib.Core.Path.{◌≡◌, refl, sym, ap, ◌∙◌}
-use Prim.Native.Nat.{ℕ, zero, suc, ◌+◌, ◌*◌, ◌-◌, ◌≤◌, ◌<◌, min}
+use Prim.Native.Nat.{ℕ, zero, suc, ◌+◌, ◌≤◌, ◌<◌, min}
 use native.Mathlib.Omega.{arith}
 use mathlib.Core.Bool.{Bool, true, false, cond, not, ◌&&◌, ◌||◌, and-eq-true_iff, or_assoc, and_assoc, or-false, false≢true}
 use mathlib.Core.List.{List, [], ◌∷◌, ◌++◌}
 use mathlib.Core.Logic.{◌⊎◌, inl, inr, ⊎_elim}
-use lib.ListN.{length, take, drop, get_or, set, replicate, length-set, length-replicate, get_or-replicate}
+use lib.ListN.{length, take, drop, get_or, set, length-set, length-replicate, get_or-replicate}
 use lib.Seq.{get_or-set_same, get_or-set_other}
-use lib.Dec.{leb, ltb, eqb}
+use lib.Dec.{eqb}
 use borrow.Author.Tests.{eqb-true, eqb-false, eq-eqb, ne_eqb}
 use borrow.Table.Steps.{cases}
 use Rattle.space.specs.declared.config.Config.{Config}
@@ -16,7 +16,7 @@ use Rattle.space.specs.Bounds.{table_places}
 use Rattle.space.specs.Configs.{has_proposals}
 use Rattle.space.specs.Proposals.{offered, is_sought, proposes, proposed}
 use Rattle.space.specs.Shapes.{is_proposal, round_of, process_of, proposed_code}
-use Rattle.space.specs.Tables.{has_place, place, code_at, belongs, entered, table_from, empty_table, table_of, fits_table, tabled_from, tabled, proposed_in}
+use Rattle.space.specs.Tables.{place, code_at, belongs, entered, table_from, empty_table, table_of, fits_table, tabled_from, tabled, proposed_in}
 use Rattle.space.proofs.ProposalLaws.{proposes-rule}
 use Rattle.space.proofs.TableSteps.{HasPlace, place-parts, place-test, place-below, place_same}
 use Rattle.tuple.specs.declared.field.Tuple.{Tuple}

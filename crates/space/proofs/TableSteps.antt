@@ -1,20 +1,19 @@
 -- The places of the table, and what is entered there.
 use mathlib.Core.Path.{◌≡◌, refl, sym, ap, ◌∙◌}
-use Prim.Native.Nat.{ℕ, zero, suc, ◌+◌, ◌*◌, ◌-◌, ◌≤◌, ◌<◌}
+use Prim.Native.Nat.{ℕ, zero, suc, ◌+◌, ◌-◌, ◌≤◌, ◌<◌}
 use native.Mathlib.Omega.{arith}
-use mathlib.Core.Bool.{Bool, true, false, cond, ◌&&◌, and-eq-true_iff}
-use mathlib.Core.List.{List, [], ◌∷◌, ◌++◌}
-use lib.ListN.{length, get_or, set, replicate}
-use lib.Dec.{leb, ltb, eqb}
+use mathlib.Core.Bool.{true, false, cond, and-eq-true_iff}
+use mathlib.Core.List.{List}
+use lib.ListN.{get_or}
+use lib.Dec.{eqb}
 use mathlib.Core.Logic.{◌↔◌}
 use borrow.Author.Tests.{ltb-true, lt-ltb, leb-true, le-leb, eqb-true, eqb-false, eq-eqb, ne_eqb}
 use borrow.Table.Steps.{cases}
 use Rattle.space.specs.declared.config.Config.{Config}
 use Rattle.space.specs.declared.proposal.Sought.{Sought}
-use Rattle.space.specs.Bounds.{processes, table_places}
-use Rattle.space.specs.Configs.{has_proposals, known}
+use Rattle.space.specs.Bounds.{table_places}
+use Rattle.space.specs.Configs.{known}
 use Rattle.space.specs.Proposals.{is_sought}
-use Rattle.space.specs.Shapes.{is_proposal, in_rounds, round_of, process_of, proposed_code}
 use Rattle.space.specs.Tables.{has_place, place, code_at, same_from, same_table, proposed_in}
 use Rattle.tuple.proofs.NoFault.{between}
 

@@ -1,35 +1,34 @@
 -- The claims of the table: its places, when it is right, and what it answers.
-use mathlib.Core.Path.{◌≡◌, refl, sym, ap, ◌∙◌}
+use mathlib.Core.Path.{◌≡◌, refl, sym, ◌∙◌}
 use mathlib.Core.Logic.{◌↔◌, ⊎_elim}
-use mathlib.Core.Bool.{Bool, true, false, not, ◌&&◌, and-eq-true_iff, and-true, false≢true}
+use mathlib.Core.Bool.{Bool, true, false, not, and-eq-true_iff, and-true, false≢true}
 use Prim.Native.Nat.{ℕ, ◌+◌, ◌*◌, ◌-◌, ◌≤◌, ◌<◌}
 use native.Mathlib.Omega.{arith}
-use lib.ListN.{length, take, get_or, length-take}
+use lib.ListN.{length, get_or, length-take}
 use lib.Seq.{get_or-take}
-use lib.Dec.{leb, ltb, eqb}
+use lib.Dec.{ltb, eqb}
 use borrow.Author.Tests.{ltb-true, ltb-false, leb-true, le-leb, eqb-true}
 use borrow.Table.Steps.{cases}
 use Rattle.space.specs.declared.config.Config.{Config}
 use Rattle.space.specs.declared.proposal.Sought.{Sought}
-use Rattle.space.specs.declared.proposal.Sought.TheVariants.{One, Some, Any}
+use Rattle.space.specs.declared.proposal.Sought.TheVariants.{One, Any}
 use Rattle.space.specs.declared.space.Space.{Space}
 use Rattle.space.specs.Bounds.{table_places}
 use Rattle.space.specs.Configs.{sound, has_proposals}
-use Rattle.space.specs.Members.{Member, every, counted}
-use Rattle.space.specs.Proposals.{offered, is_sought, proposed, every_proposed, backers, crowded}
+use Rattle.space.specs.Members.{Member, every}
+use Rattle.space.specs.Proposals.{offered, proposed, every_proposed, backers}
 use Rattle.space.specs.Shapes.{round_of, process_of, proposed_code}
-use Rattle.space.specs.Spaces.{held, well_formed, table_sound}
+use Rattle.space.specs.Spaces.{held, well_formed}
 use Rattle.space.specs.TableLaws.{PlaceRules, Due, nth, Tabled, TabledRules}
 use Rattle.space.specs.Tables.{has_place, place, code_at, belongs, empty_table, table_of, tabled, same_table, proposed_in, backers_in, is_few}
 use Rattle.space.proofs.ConfigLaws.{proposals-rule, sound-range}
 use Rattle.space.proofs.MemberLaws.{every-rule, counted-rule}
 use Rattle.space.proofs.MemberSteps.{every-same, counted_same}
 use Rattle.space.proofs.ProposalLaws.{crowded-rule}
-use Rattle.space.proofs.SpaceRules.{formed-sound, formed-few, formed-tabled, formed-table}
+use Rattle.space.proofs.SpaceRules.{formed-sound, formed-tabled, formed-table}
 use Rattle.space.proofs.TableLaws as table
 use Rattle.space.proofs.TableSteps.{HasPlace, place-parts, place-test, place-below, place_same, same-rule}
 use Rattle.tuple.specs.declared.field.Tuple.{Tuple}
-use Rattle.tuple.specs.Bounds.{capacity}
 use Rattle.tuple.specs.Fields.{blank_tuple}
 
 -- ---- places

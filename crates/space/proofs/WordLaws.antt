@@ -4,17 +4,16 @@ use mathlib.Core.Bool.{true, not, and-eq-true_iff}
 use mathlib.Core.List.Memᴰ
 use mathlib.Core.List.{List, [], ◌∷◌, ◌++◌, Memᴰ}
 use mathlib.Core.Logic.{⊎_elim}
-use Prim.Native.Nat.{ℕ, zero, suc, ◌+◌, ◌*◌, ◌/◌, ◌%◌, ◌≤◌, ◌<◌}
+use Prim.Native.Nat.{ℕ, zero, suc, ◌/◌, ◌<◌}
 use native.Mathlib.Omega.{arith}
 use lib.ListN.{length, take, drop, get_or, length-append, get_or-append}
 use lib.Dec.{eqb}
 use lib.Seq.{get_or-append_seam}
 use Rattle.space.specs.declared.config.Config.{Config}
-use Rattle.space.specs.Announcements.{is_announcement, announcer_of, Announcing, Oldest}
-use Rattle.space.specs.Lists.{is_list_tuple, Filled, Listed}
+use Rattle.space.specs.Announcements.{is_announcement, announcer_of, Oldest}
+use Rattle.space.specs.Lists.{is_list_tuple}
 use Rattle.space.specs.Proposals.{Placed, Proposed}
 use Rattle.space.specs.Shapes.{is_proposal}
-use Rattle.space.specs.Spaces.{held}
 use Rattle.space.specs.WordLaws.{listed_as, announced_as, Whole, HeldWhole, FirstOf, WordRules}
 use Rattle.space.proofs.AnnouncementLaws.{announcement-parts, announcement-rule}
 use Rattle.space.proofs.CodeLaws.{is-choice-rule, offered-some, offered-small, plain-offered, offered-choice, choice-offered}

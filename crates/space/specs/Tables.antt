@@ -1,5 +1,5 @@
 -- Document 02, 2.9: the table by round and process of the proposals that a space holds, under policies 2 and 3, and what policies ask answered from it.
-use Rattle.std.specs.Prelude.{ℕ, zero, suc, ◌+◌, ◌*◌, ◌-◌, Bool, true, cond, not, ◌&&◌, ◌||◌, List, [], ◌∷◌, get_or, replicate, set, leb, ltb, eqb}
+use Rattle.std.specs.Prelude.{ℕ, zero, suc, ◌+◌, ◌*◌, ◌-◌, Bool, true, cond, not, ◌&&◌, ◌||◌, List, [], ◌∷◌, get_or, replicate, set, leb, eqb}
 use Rattle.space.specs.declared.config.Config.{Config}
 use Rattle.space.specs.declared.proposal.Sought.{Sought}
 use Rattle.space.specs.declared.proposal.Sought.TheVariants.{One}

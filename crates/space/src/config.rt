@@ -82,6 +82,7 @@ impl Config {
     }
 
     // Whether this is one of the processes 1 to n.
+    #[tactic(auto, unfolding(crate::specs::Configs::known))]
     pub fn knows(self, process: u64) -> bool
         ensures { result ≡ known self process }
     {

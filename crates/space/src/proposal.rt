@@ -24,6 +24,7 @@ pub enum Sought {
 }
 
 // Whether the offset of a code may be proposed.
+#[tactic(auto, unfolding(crate::specs::Proposals::offered))]
 pub fn offered(config: Config, code: u64) -> bool
     ensures { result ≡ offered· config code }
 {
@@ -41,6 +42,7 @@ pub fn offered(config: Config, code: u64) -> bool
 }
 
 // Whether a code is that of one of the offsets 0 to k - 1.
+#[tactic(auto, unfolding(crate::specs::Proposals::is_choice))]
 fn is_choice(k: u64, code: u64) -> bool
     ensures { result ≡ is_choice k code }
 {

@@ -1,9 +1,8 @@
 -- `space::oldest_announced` meets its contract. The loop's invariant: no tuple passed is an announcement of the process, so that those left decide.
 use mathlib.Core.Path.{refl, sym, ◌∙◌}
-use Prim.Native.Nat.{◌-◌, ◌<◌}
+use Prim.Native.Nat.{◌<◌}
 use native.Mathlib.Omega.{arith}
 use lib.ListN.{length}
-use Rattle.space.specs.Spaces.{held}
 use Rattle.space.proofs.Lengths.{full}
 use Rattle.space.proofs.AnnouncementLaws.{announced-here, announced-more, announced-none}
 use Rattle.space.proofs.announcement.oldest_announced.Goals.{In-loop-i}
@@ -28,11 +27,10 @@ pub loop-i-smaller : goal.loop-i-smaller
 loop-i-smaller c = omega arith
 
 pub loop-i-preserved : goal.loop-i-preserved
-loop-i-preserved c =
-    (
-      omega arith,
-      announced-more c.args.process c.args.space.count c.args.space.tuples c.loop-i.i c.loop-i.invariant.1 _ (below (goal.at.loop-i-preserved c).In-loop-i) (inside (goal.at.loop-i-preserved c).In-loop-i) (sym c.announces.ensures ∙ c.if-announces.false),
-    )
+loop-i-preserved c = (
+  omega arith,
+  announced-more c.args.process c.args.space.count c.args.space.tuples c.loop-i.i c.loop-i.invariant.1 _ (below (goal.at.loop-i-preserved c).In-loop-i) (inside (goal.at.loop-i-preserved c).In-loop-i) (sym c.announces.ensures ∙ c.if-announces.false),
+)
 
 pub returns : goal.returns
 returns c =

@@ -1,12 +1,11 @@
 -- `space::list::is_there` meets its contract. The loop's invariant: no tuple passed is such a list tuple, so that those left decide.
 use mathlib.Core.Path.{refl, sym, ◌∙◌}
-use Prim.Native.Nat.{◌-◌, ◌<◌}
+use Prim.Native.Nat.{◌<◌}
 use native.Mathlib.Omega.{arith}
 use mathlib.Core.Bool.{Bool}
 use mathlib.Core.List.{List}
 use lib.ListN.{length}
 use Rattle.space.specs.Lists.{lists, is_there}
-use Rattle.space.specs.Spaces.{held}
 use Rattle.space.proofs.Lengths.{full}
 use Rattle.tuple.specs.declared.field.Tuple.{Tuple}
 use Rattle.tuple.proofs.Lists.{some-here, some_more, some-none}
@@ -41,12 +40,11 @@ loop-i-smaller c = omega arith
 
 pub loop-i-preserved : goal.loop-i-preserved
 unfolding is_there
-loop-i-preserved c =
-    (
-      omega arith,
-      some_more (test (goal.at.loop-i-preserved c).Start) (some (goal.at.loop-i-preserved c).Start) refl (λ tuple rest. refl) c.args.space.count c.args.space.tuples c.loop-i.i c.loop-i.invariant.1 _ (below (goal.at.loop-i-preserved c).In-loop-i) (inside (goal.at.loop-i-preserved c).In-loop-i)
-          (sym c.lists.ensures ∙ c.if-lists.false),
-    )
+loop-i-preserved c = (
+  omega arith,
+  some_more (test (goal.at.loop-i-preserved c).Start) (some (goal.at.loop-i-preserved c).Start) refl (λ tuple rest. refl) c.args.space.count c.args.space.tuples c.loop-i.i c.loop-i.invariant.1 _ (below (goal.at.loop-i-preserved c).In-loop-i) (inside (goal.at.loop-i-preserved c).In-loop-i)
+      (sym c.lists.ensures ∙ c.if-lists.false),
+)
 
 pub returns : goal.returns
 unfolding is_there

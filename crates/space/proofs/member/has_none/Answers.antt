@@ -24,12 +24,11 @@ pub loop-k-smaller : goal.loop-k-smaller
 loop-k-smaller c = omega arith
 
 pub loop-k-preserved : goal.loop-k-preserved
-loop-k-preserved c =
-    (
-      omega arith,
-      sym (rw (eq-eqb _ _ c.if-rest-ne0.false) at (every-step never c.args.n c.loop-k.k c.loop-k.rest c.loop-k-test.true))
-          ∙ c.loop-k.invariant.1,
-    )
+loop-k-preserved c = (
+  omega arith,
+  sym (rw (eq-eqb _ _ c.if-rest-ne0.false) at (every-step never c.args.n c.loop-k.k c.loop-k.rest c.loop-k-test.true))
+      ∙ c.loop-k.invariant.1,
+)
 
 pub returns : goal.returns
 returns c =

@@ -1,5 +1,4 @@
 -- `space::member::strike` meets its contract. The loop's invariant: what striking leaves of the rest decides.
-use Prim.Native.Nat.{◌-◌}
 use native.Mathlib.Omega.{arith}
 use Rattle.space.proofs.MemberSteps.{none_passed, bit-fits, worth-fits, passed-all, strikes-here, strikes-nobody, passed-more}
 use Rattle.space.proofs.member.strike.Goals as goal

@@ -1,7 +1,7 @@
 -- `space::crowded` meets its contract. The outer loop's invariant: no tuple passed crowds, so that those left decide. The inner loop's: the
 -- members counted, and those of the rest of the set that the tuples left give, are all.
 use mathlib.Core.Path.{◌≡◌, refl, sym, ap, ◌∙◌}
-use Prim.Native.Nat.{ℕ, ◌+◌, ◌-◌, ◌≤◌, ◌<◌, min}
+use Prim.Native.Nat.{ℕ, ◌+◌, ◌≤◌, ◌<◌, min}
 use native.Mathlib.Nat.{zero-add}
 use native.Mathlib.Omega.{arith}
 use mathlib.Core.Bool.{Bool, true, false, cond, ◌&&◌}

@@ -1,11 +1,10 @@
 -- `space::every_proposed` meets its contract. The loop's invariant: the members struck off have proposed, so that those left decide.
 use mathlib.Core.Path.{refl, sym, ap, ◌∙◌}
-use Prim.Native.Nat.{◌-◌, ◌<◌}
+use Prim.Native.Nat.{◌<◌}
 use native.Mathlib.Omega.{arith}
 use mathlib.Core.List.{List}
-use lib.ListN.{length, drop}
+use lib.ListN.{length}
 use Rattle.space.specs.Proposals.{proposed, every_proposed}
-use Rattle.space.specs.Spaces.{held}
 use Rattle.space.proofs.Lengths.{full}
 use Rattle.space.proofs.Strikes.{each_step}
 use Rattle.tuple.specs.declared.field.Tuple.{Tuple}

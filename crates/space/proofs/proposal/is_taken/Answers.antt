@@ -1,13 +1,12 @@
 -- `space::is_taken` meets its contract. The loop's invariant: no tuple passed is such a proposal, so that those left decide.
 use mathlib.Core.Path.{refl, sym, ◌∙◌}
-use Prim.Native.Nat.{◌-◌, ◌<◌}
+use Prim.Native.Nat.{◌<◌}
 use native.Mathlib.Omega.{arith}
 use mathlib.Core.Bool.{Bool}
 use mathlib.Core.List.{List}
 use lib.ListN.{length}
 use Rattle.space.specs.declared.proposal.Sought.TheVariants.{Any}
 use Rattle.space.specs.Proposals.{proposes, proposed}
-use Rattle.space.specs.Spaces.{held}
 use Rattle.space.proofs.Lengths.{full}
 use Rattle.tuple.specs.declared.field.Tuple.{Tuple}
 use Rattle.tuple.proofs.Lists.{some-here, some_more, some-none}
@@ -42,12 +41,11 @@ loop-i-smaller c = omega arith
 
 pub loop-i-preserved : goal.loop-i-preserved
 unfolding proposed
-loop-i-preserved c =
-    (
-      omega arith,
-      some_more (test (goal.at.loop-i-preserved c).Start) (some (goal.at.loop-i-preserved c).Start) refl (λ tuple rest. refl) c.args.space.count c.args.space.tuples c.loop-i.i c.loop-i.invariant.1 _ (below (goal.at.loop-i-preserved c).In-loop-i) (inside (goal.at.loop-i-preserved c).In-loop-i)
-          (sym c.proposes.ensures ∙ c.if-proposes.false),
-    )
+loop-i-preserved c = (
+  omega arith,
+  some_more (test (goal.at.loop-i-preserved c).Start) (some (goal.at.loop-i-preserved c).Start) refl (λ tuple rest. refl) c.args.space.count c.args.space.tuples c.loop-i.i c.loop-i.invariant.1 _ (below (goal.at.loop-i-preserved c).In-loop-i) (inside (goal.at.loop-i-preserved c).In-loop-i)
+      (sym c.proposes.ensures ∙ c.if-proposes.false),
+)
 
 pub returns : goal.returns
 unfolding proposed

@@ -1,6 +1,6 @@
 -- `space::space::table_sound` meets its contract. The loop's invariant: the tuples passed fit and are entered, so that those left decide.
 use mathlib.Core.Path.{sym, ap, ◌∙◌}
-use Prim.Native.Nat.{ℕ, ◌+◌, ◌-◌, ◌≤◌, ◌<◌}
+use Prim.Native.Nat.{ℕ, ◌+◌, ◌≤◌, ◌<◌}
 use native.Mathlib.Omega.{arith}
 use mathlib.Core.Bool.{Bool, true, false, cond, ◌&&◌}
 use mathlib.Core.List.{List}
@@ -8,7 +8,7 @@ use lib.ListN.{length, take, drop}
 use borrow.Author.Tests.{not-true, not-false}
 use Rattle.space.specs.Configs.{has_proposals}
 use Rattle.space.specs.Spaces.{held, table_sound}
-use Rattle.space.specs.Tables.{empty_table, table_from, table_of, tabled_from, tabled, same_table}
+use Rattle.space.specs.Tables.{empty_table, table_from, table_of, tabled_from, same_table}
 use Rattle.space.proofs.Lengths.{full}
 use Rattle.space.proofs.TableLaws.{looked-at, tabled-stop, tabled-more, table_more, tabled-end}
 use Rattle.space.proofs.space.table_sound.Goals.{In-loop-i}

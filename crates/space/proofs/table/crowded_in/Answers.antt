@@ -29,12 +29,11 @@ pub loop-k-smaller : goal.loop-k-smaller
 loop-k-smaller c = omega arith
 
 pub loop-k-preserved : goal.loop-k-preserved
-loop-k-preserved c =
-    (
-      omega arith,
-      sym (rw (sym c.is_few.ensures ∙ not-false _ c.if-not-is_few.false-raw) at (every-step (test (goal.at.loop-k-preserved c).Start) c.args.config.n c.loop-k.k c.loop-k.rest c.loop-k-test.true))
-          ∙ c.loop-k.invariant.1,
-    )
+loop-k-preserved c = (
+  omega arith,
+  sym (rw (sym c.is_few.ensures ∙ not-false _ c.if-not-is_few.false-raw) at (every-step (test (goal.at.loop-k-preserved c).Start) c.args.config.n c.loop-k.k c.loop-k.rest c.loop-k-test.true))
+      ∙ c.loop-k.invariant.1,
+)
 
 pub returns : goal.returns
 returns c =

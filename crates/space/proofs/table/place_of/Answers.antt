@@ -1,6 +1,5 @@
 -- `space::table::place_of` meets its contract: its tests are the definition's, and the sum is small.
 use mathlib.Core.Path.{sym, ◌∙◌}
-use mathlib.Core.Bool.{true, false}
 use native.Mathlib.Omega.{arith}
 use borrow.Author.Tests.{le-ltb, lt-ltb, le-leb, lt-leb, not-true, not-false}
 use Rattle.space.specs.Tables.{has_place}

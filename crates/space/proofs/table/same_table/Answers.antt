@@ -1,6 +1,5 @@
 -- `space::table::same_table` meets its contract; the loop's invariant: the places passed are equal, so that those left decide.
 use mathlib.Core.Path.{refl, ◌∙◌}
-use Prim.Native.Nat.{◌-◌}
 use native.Mathlib.Omega.{arith}
 use Rattle.space.proofs.TableSteps.{same_more, same_stop, same_end}
 use Rattle.space.proofs.table.same_table.Goals as goal

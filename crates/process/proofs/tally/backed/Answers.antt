@@ -25,11 +25,10 @@ pub loop-i-smaller : goal.loop-i-smaller
 loop-i-smaller c = omega arith
 
 pub loop-i-preserved : goal.loop-i-preserved
-loop-i-preserved c =
-    (
-      omega arith,
-      backed-more c.args.t c.args.found c.loop-i.i (inside (goal.at.loop-i-preserved c).In-loop-i) (sym c.is_backed.ensures ∙ c.if-is_backed.false) ∙ c.loop-i.invariant.1,
-    )
+loop-i-preserved c = (
+  omega arith,
+  backed-more c.args.t c.args.found c.loop-i.i (inside (goal.at.loop-i-preserved c).In-loop-i) (sym c.is_backed.ensures ∙ c.if-is_backed.false) ∙ c.loop-i.invariant.1,
+)
 
 pub returns : goal.returns
 returns c =

@@ -23,11 +23,10 @@ pub loop-i-smaller : goal.loop-i-smaller
 loop-i-smaller c = omega arith
 
 pub loop-i-preserved : goal.loop-i-preserved
-loop-i-preserved c =
-    (
-      omega arith,
-      free_more c.args.n c.args.found c.loop-i.i c.loop-i-test.true (inside (goal.at.loop-i-preserved c).In-loop-i) c.if-found-i-eq0.false ∙ c.loop-i.invariant.1,
-    )
+loop-i-preserved c = (
+  omega arith,
+  free_more c.args.n c.args.found c.loop-i.i c.loop-i-test.true (inside (goal.at.loop-i-preserved c).In-loop-i) c.if-found-i-eq0.false ∙ c.loop-i.invariant.1,
+)
 
 pub returns : goal.returns
 returns c = free-end c.args.n c.args.found c.loop-i.i c.loop-i-test.false ∙ c.loop-i.invariant.1

@@ -2,7 +2,7 @@
 use mathlib.Core.Path.{◌≡◌, sym, ◌∙◌}
 use mathlib.Core.Bool.{true}
 use lib.Dec.{eqb}
-use borrow.Author.Tests.{eq-eqb, ne_eqb, not-true, not-false}
+use borrow.Author.Tests.{eq-eqb, ne_eqb}
 use Rattle.process.specs.Fits.{is_asked_proposal}
 use Rattle.space.specs.Shapes.{process_of, round_of, is_proposal}
 use Rattle.tuple.specs.Faults.{is_entry}

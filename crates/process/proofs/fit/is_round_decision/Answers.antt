@@ -1,7 +1,7 @@
 -- `process::fit::is_round_decision` meets its contract: its tests are the definition's.
 use mathlib.Core.Path.{◌≡◌, sym, ◌∙◌}
 use mathlib.Core.Bool.{true}
-use borrow.Author.Tests.{eq-eqb, ne_eqb, not-true, not-false}
+use borrow.Author.Tests.{eq-eqb, ne_eqb}
 use Rattle.process.specs.Fits.{is_round_decision}
 use Rattle.policy.specs.Shapes.{is_decision}
 use Rattle.tuple.specs.Faults.{is_entry}

@@ -1,7 +1,6 @@
 -- `process::resume` meets its contract: its tests are the definition's.
 use mathlib.Core.Path.{◌≡◌, sym, ◌∙◌}
 use mathlib.Core.Bool.{true, ◌||◌, or-true}
-use borrow.Author.Tests.{not-true, not-false}
 use Rattle.process.specs.Fits.{fits}
 use Rattle.process.specs.Procedure.{is_decided, resumed}
 use Rattle.process.specs.States.{well_formed}

@@ -1,7 +1,7 @@
 -- `process::start` meets its contract: its tests are the definition's.
 use mathlib.Core.Path.{◌≡◌, sym, ◌∙◌}
 use mathlib.Core.Bool.{true}
-use borrow.Author.Tests.{lt-ltb, le-ltb, not-true, not-false}
+use borrow.Author.Tests.{lt-ltb, le-ltb}
 use Rattle.process.specs.Asks.{out_call}
 use Rattle.process.specs.Procedure.{proposable, started}
 use Rattle.process.specs.States.{startable}

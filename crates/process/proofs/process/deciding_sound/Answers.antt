@@ -1,7 +1,6 @@
 -- `process::process::deciding_sound` meets its contract: its tests are the definition's.
 use mathlib.Core.Path.{◌≡◌, sym, ◌∙◌}
 use mathlib.Core.Bool.{true}
-use borrow.Author.Tests.{not-true, not-false}
 use Rattle.process.specs.States.{found_sound, deciding_sound}
 use Rattle.process.proofs.StateSteps.{sound-few}
 use Rattle.process.proofs.process.deciding_sound.Goals.{Else-not-found_sound}

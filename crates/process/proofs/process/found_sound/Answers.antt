@@ -4,7 +4,6 @@ use Prim.Native.Nat.{ℕ, ◌-◌, ◌<◌}
 use native.Mathlib.Omega.{arith}
 use mathlib.Core.List.{[]}
 use lib.ListN.{length, drop, drop_of_length-le}
-use borrow.Author.Tests.{not-true, not-false}
 use Rattle.process.specs.States.{found_sound}
 use Rattle.process.proofs.Lengths.{all-places}
 use Rattle.process.proofs.StateSteps.{found-more, found-stop, found-end}

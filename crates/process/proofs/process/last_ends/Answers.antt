@@ -3,7 +3,6 @@ use borrow.Author.Rules.{rules}
 use mathlib.Core.Path.{◌≡◌, refl, sym, ap, ◌∙◌}
 use Prim.Native.Nat.{◌≤◌}
 use native.Mathlib.Omega.{arith}
-use borrow.Author.Tests.{not-true, not-false}
 use Rattle.process.specs.States.{last_ends}
 use Rattle.process.proofs.StateSteps.{sound-few, last-here, last_more, last_none}
 use Rattle.space.specs.Bounds.{processes}

@@ -1,6 +1,6 @@
 -- `process::tally::backed` meets its contract. The loop's invariant: no offset passed is backed enough, so that those left decide.
 use mathlib.Core.Path.{refl, sym, ◌∙◌}
-use Prim.Native.Nat.{◌-◌, ◌<◌}
+use Prim.Native.Nat.{◌<◌}
 use native.Mathlib.Omega.{arith}
 use lib.ListN.{length}
 use Rattle.process.specs.Tallies.{backed}

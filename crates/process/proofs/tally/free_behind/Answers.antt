@@ -1,6 +1,6 @@
 -- `process::tally::free_behind` meets its contract. The loop's invariant: none of the places passed is free, so that those left decide.
 use mathlib.Core.Path.{refl, ◌∙◌}
-use Prim.Native.Nat.{◌-◌, ◌<◌}
+use Prim.Native.Nat.{◌<◌}
 use native.Mathlib.Omega.{arith}
 use lib.ListN.{length}
 use Rattle.process.proofs.Lengths.{all-places}

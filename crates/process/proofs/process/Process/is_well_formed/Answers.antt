@@ -1,7 +1,7 @@
 -- `process::Process::is_well_formed` meets its contract: its tests are the definition's.
 use mathlib.Core.Path.{◌≡◌, sym, ◌∙◌}
 use mathlib.Core.Bool.{true}
-use borrow.Author.Tests.{lt-ltb, le-ltb, not-true, not-false}
+use borrow.Author.Tests.{lt-ltb, le-ltb}
 use Rattle.process.specs.States.{startable, well_formed}
 use Rattle.process.proofs.StateSteps.{startable-sound}
 use Rattle.space.specs.Bounds.{rounds}

@@ -44,7 +44,7 @@ lists-five config five = (has-list-rule config).1 (inr five)
 silent-rule : (tuples : List Tuple) (process : ℕ) → (is_silent (announced_of tuples process) ≡ true) ↔ (Announcing tuples process → ⊥)
 silent-rule tuples process =
     let rule = (announced-rules tuples process).silent in
-    let silent : (said : Announced) → is_silent said ≡ true → said ≡ Silent = λ said. elim said [ Shift serial code ↦ λ h. absurd (false≢true h) | Silent ↦ λ h. refl ] in
+    let silent : (said : Announced) → is_silent said ≡ true → said ≡ Silent = λ said. elim said as (λ k. is_silent k ≡ true → k ≡ Silent) [ Shift serial code ↦ λ h. absurd (false≢true h) | Silent ↦ λ h. refl ] in
     (λ h. rule.0 (silent (announced_of tuples process) h), λ none. ap is_silent (rule.1 none))
 
 pub announce-rule : AnnounceRule

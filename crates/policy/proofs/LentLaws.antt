@@ -1,16 +1,16 @@
 -- Which calls the policy judges without the tuples, and that it judges them as with them. From the definitions.
-use mathlib.Core.Path.{◌≡◌, refl, sym, ap, ◌∙◌}
+use mathlib.Core.Path.{◌≡◌, sym, ◌∙◌}
 use Prim.Native.Nat.{ℕ}
 use mathlib.Core.Bool.{Bool, true, false, ◌&&◌, ◌||◌, or-true, and-eq-true_iff}
 use mathlib.Core.Logic.{◌⊎◌, inl, inr, ⊎_elim}
 use mathlib.Core.List.{List}
 use native.Mathlib.Omega.{arith}
-use borrow.Author.Tests.{eq-eqb, ne_eqb, eqb-true, eqb-false}
+use borrow.Author.Tests.{eq-eqb, ne_eqb, eqb-true}
 use borrow.Table.Steps.{cases}
 use lib.Dec.{eqb}
 use Rattle.policy.specs.Laws.{LentFound, AsksRule}
 use Rattle.policy.specs.Listing.{shared, unlisted}
-use Rattle.policy.specs.Policies.{list_verdict, table_verdict, verdict, asks_tuples, lent_verdict}
+use Rattle.policy.specs.Policies.{list_verdict, verdict, asks_tuples, lent_verdict}
 use Rattle.space.specs.declared.config.Config.{Config}
 use Rattle.space.specs.declared.space.Space.{Space}
 use Rattle.space.specs.Configs.{sound, has_list}

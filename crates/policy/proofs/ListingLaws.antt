@@ -1,7 +1,7 @@
 -- Policies 4 and 5: what their cas have in common, what policy 4 permits in the words of document 02, and that a template of a position matches exactly the list tuples there.
 use mathlib.Core.Path.{◌≡◌, refl, sym, ◌∙◌}
 use mathlib.Core.Logic.{◌↔◌, ◌⊎◌, inl, inr, ⊎_elim}
-use mathlib.Core.Bool.{true, false, false≢true, not, or-true, and-eq-true_iff}
+use mathlib.Core.Bool.{true, false≢true, not, or-true, and-eq-true_iff}
 use mathlib.Core.List.{List}
 use Prim.Native.Nat.{ℕ, zero, suc, ◌-◌, ◌≤◌, ◌<◌}
 use native.Mathlib.Omega.{arith}

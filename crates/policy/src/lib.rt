@@ -9,6 +9,6 @@ mod shape;
 mod verdicts;
 mod weak;
 
-pub use policy::{asks_tuples, lent_verdict, list_verdict};
+pub use policy::{asks_tuples, lent_verdict, list_verdict, table_verdict};
 pub use shape::is_decision;
 pub use verdicts::Verdict;

@@ -36,7 +36,7 @@ pub fn lent_verdict(config: Config, table: &[u64; PLACES], call: Call) -> Verdic
 }
 
 // The verdict of policies 0 to 3 on a call, from the table. Of a configuration that is not sound it is 1.
-fn table_verdict(config: Config, table: &[u64; PLACES], call: Call) -> Verdict
+pub fn table_verdict(config: Config, table: &[u64; PLACES], call: Call) -> Verdict
     ensures { result ≡ table_verdict config table.now call }
 {
     if !config.is_sound() {

@@ -15,7 +15,7 @@ use Rattle.process.specs.Laws.{ReadsFirst, ReadsOn, ReadRules, DecidesRules, Unm
 use Rattle.process.specs.Procedure.{reads, decides, noted, read_on, value_of, advanced, is_decided, resumed}
 use Rattle.process.specs.States.{found_sound, well_formed}
 use Rattle.process.specs.Tallies.{backed, settled}
-use Rattle.process.proofs.StateLaws.{formed-parts, none-at, none_found}
+use Rattle.process.proofs.StateLaws.{formed-parts, none-at, none-found}
 use Rattle.tuple.specs.declared.refusal.Refusal.{Refusal}
 use Rattle.tuple.specs.declared.reply.Outcome.{Outcome}
 use Rattle.tuple.specs.declared.reply.Outcome.TheVariants.{Inserted, Held}
@@ -85,5 +85,5 @@ pub repeats : Repeats
 unfolding resumed
 repeats process reply code typed formed decided =
     let sound = rw decided at ((formed-parts process).0 formed).1 in
-    let none = none_found process.found typed (none-at process.config process.found ((and-eq-true_iff (found_sound process.config 0 process.found) _).0 sound).0) in
+    let none = none-found process.found typed (none-at process.config process.found ((and-eq-true_iff (found_sound process.config 0 process.found) _).0 sound).0) in
     rw (formed, decided, none) refl

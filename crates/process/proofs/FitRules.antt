@@ -32,7 +32,7 @@ use Rattle.tuple.specs.declared.reply.Outcome.TheVariants as outcome
 use Rattle.tuple.specs.declared.reply.Reply.{Reply}
 use Rattle.tuple.specs.Bounds.{largest_set}
 use Rattle.tuple.specs.Faults.{is_absent, tuple_fault, is_blank, place_blank, rest_from, rest_blank, is_entry}
-use Rattle.tuple.specs.Fields.{offset, process_set, decision, largest_of}
+use Rattle.tuple.specs.Fields.{process_set, largest_of}
 use Rattle.tuple.specs.Forms.{decision_shape}
 use Rattle.tuple.specs.Offsets.{bottom, code_of, offset_of}
 use Rattle.tuple.specs.ShapeLaws.{proposal_of, decision_of}
@@ -61,8 +61,8 @@ module _ (config : Config) (round : ℕ) (start : MayStart config) (in-rounds : 
       as-bottom (eqb-true config.policy 2 parts.0) (ap offset_of (eqb-true code bottom parts.1)))
 
   decides : (offset : Offset) → MayDecide config round offset → decidable config (code_of offset) ≡ true
-  decides offset (as-proposed may) = offered-decidable config (code_of offset) (offers config round offset start may)
-  decides offset (as-bottom two is) = ap (λ (o : Offset). decidable config (code_of o)) is ∙ bottom-decidable config two
+  decides chosen (as-proposed may) = offered-decidable config (code_of chosen) (offers config round chosen start may)
+  decides chosen (as-bottom two is) = ap (λ (o : Offset). decidable config (code_of o)) is ∙ bottom-decidable config two
 
 -- a decision's set, as an entry has it
 small-set : (tuple : Tuple) → is_entry tuple ≡ true → is_decision tuple ≡ true → set_of tuple ≤ largest_set

@@ -4,17 +4,16 @@ use mathlib.Core.Bool.{Bool, true, false, false≢true, ◌&&◌, ◌||◌, and-
 use mathlib.Core.Logic.{◌↔◌}
 use Prim.Native.Nat.{ℕ, ◌≤◌}
 use native.Mathlib.Omega.{arith}
-use lib.Dec.{ltb, eqb}
+use lib.Dec.{eqb}
 use lib.IntN.{ℤ, nat_abs}
 use borrow.Author.Tests.{lt-ltb, le-leb, ltb-true, leb-true, eqb-true, eqb-false}
 use borrow.Table.Steps.{cases}
-use Rattle.process.specs.declared.process.Next.{Next}
 use Rattle.process.specs.declared.process.Next.TheVariants.{Calls, Refuses}
 use Rattle.process.specs.declared.process.Phase.{Phase}
 use Rattle.process.specs.declared.process.Phase.TheVariants.{Proposing, Reading, Deciding, Decided}
 use Rattle.process.specs.declared.process.Process.{Process}
 use Rattle.process.specs.Fits.{fits}
-use Rattle.process.specs.Laws.{MayStart, IsProcess, MayPropose, StartOrder, StartOrders, HandOrder, HandOrders}
+use Rattle.process.specs.Laws.{MayStart, MayPropose, StartOrder, StartOrders, HandOrder, HandOrders}
 use Rattle.process.specs.Procedure.{proposable, started, is_decided, resumed}
 use Rattle.process.specs.States.{startable, well_formed}
 use Rattle.process.proofs.AnswerLaws.{advances}

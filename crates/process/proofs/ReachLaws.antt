@@ -23,7 +23,7 @@ use Rattle.process.specs.Tallies.{found_of, backs, backing, settled, next_after}
 use Rattle.process.proofs.FitLaws.{proposal-answers, decision-held, within_none}
 use Rattle.process.proofs.KeptLaws.{Kept, resumed-advanced, resumed-formed, started-begun, started-formed}
 use Rattle.process.proofs.NextLaws.{next-rules}
-use Rattle.process.proofs.StateLaws.{Startable, Same, Codes, Reads, Decides, startable-parts, formed-parts, none-at, none_found, code-noted, codes-set, put_back, reading-rule, deciding-rule, unsettled-few}
+use Rattle.process.proofs.StateLaws.{Startable, Same, Codes, Reads, Decides, startable-parts, formed-parts, none-at, none-found, code-noted, codes-set, put_back, reading-rule, deciding-rule, unsettled-few}
 use Rattle.process.proofs.TallyLaws.{Part, settled-part}
 use Rattle.space.specs.declared.config.Config.{Config}
 use Rattle.space.specs.Bounds.{processes, rounds}
@@ -186,7 +186,7 @@ module _ (config : Config) (process round : ℕ) where
         let start = startable-parts config same.start in
         ⊎_elim
         (λ none.
-        let first : Reachable (state (Reading 1) found) = rw (none_found found typed none) reach-first in
+        let first : Reachable (state (Reading 1) found) = rw (none-found found typed none) reach-first in
         turn reads.least reads.most reads.free first)
         (λ some.
         let j = some.0 in
@@ -231,12 +231,12 @@ module _ (config : Config) (process round : ℕ) where
         (decision-held config round code 0 (omega (arith, ltb-true round rounds same.in-rounds)) may (omega arith) (within_none config.n))
 
     reach : (phase : Phase) (found : List ℕ) → length found ≡ processes → phase_sound config found phase ≡ true → Reachable (state phase found)
-    reach Proposing found typed sound = rw (none_found found typed (none-at config found sound)) reach-proposing
+    reach Proposing found typed sound = rw (none-found found typed (none-at config found sound)) reach-proposing
     reach (Reading asked) found typed sound = reach-reading (backing bottom found + 1) found asked typed (omega arith) ((reading-rule config found asked).0 sound)
     reach Deciding found typed sound = reach-deciding found typed ((deciding-rule config found).0 sound)
     reach (Decided code) found typed sound =
         let parts = (and-eq-true_iff (found_sound config 0 found) _).0 sound in
-        rw (none_found found typed (none-at config found parts.0)) (reach-decided code parts.1)
+        rw (none-found found typed (none-at config found parts.0)) (reach-decided code parts.1)
 
 pub reachable-rule : ReachableRule
 reachable-rule p typed = (

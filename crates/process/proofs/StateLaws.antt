@@ -123,8 +123,8 @@ codes-rule config (suc n) (code ∷ found) =
 pub none-at : (config : Config) (found : List ℕ) → found_sound config 0 found ≡ true → (j : ℕ) → get_or found j 0 ≡ 0
 none-at config found none j = ((codes-rule config 0 found).0 none).unused j (omega arith)
 
-pub none_found : (found : List ℕ) → length found ≡ processes → ((j : ℕ) → get_or found j 0 ≡ 0) → found ≡ none_found
-none_found found typed none = ext_get_or 0 found none_found typed (λ j below. none j ∙ sym (get_or-replicate processes j 0 0 (omega arith)))
+pub none-found : (found : List ℕ) → length found ≡ processes → ((j : ℕ) → get_or found j 0 ≡ 0) → found ≡ none_found
+none-found found typed none = ext_get_or 0 found none_found typed (λ j below. none j ∙ sym (get_or-replicate processes j 0 0 (omega arith)))
 
 module _ {config : Config} {n : ℕ} {found : List ℕ} (codes : Codes config n found) where
   pub code-noted : (j : ℕ) → Noted config (get_or found j 0)

@@ -1,6 +1,5 @@
 -- `policy::listing::may_list` meets its contract: its tests are the definition's.
 use mathlib.Core.Path.{sym, ◌∙◌}
-use mathlib.Core.Bool.{true}
 use borrow.Author.Tests.{not-true, not-false}
 use Rattle.policy.specs.Listing.{may_list}
 use Rattle.policy.proofs.listing.may_list.Goals as goal

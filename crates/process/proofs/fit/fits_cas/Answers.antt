@@ -1,5 +1,6 @@
 -- `process::fit::fits_cas` meets its contract: each arm is a case of the definition.
 use mathlib.Core.Path.{sym, ap, ◌∙◌}
+use borrow.Enum.Refused.{opened}
 use Rattle.process.specs.Fits.{fits_cas}
 use Rattle.process.proofs.FitSteps.{cas-else}
 use Rattle.process.proofs.fit.fits_cas.Goals as goal
@@ -14,4 +15,4 @@ returns-in-Held c =
 
 pub returns-in_default : goal.returns-in_default
 returns-in_default c =
-    cas-else c.args.config c.args.round c.args.reply.tuple c.args.reply.outcome c.in_default.in_default-own.keys3
+    cas-else c.args.config c.args.round c.args.reply.tuple c.args.reply.outcome (opened c.in_default.in_default-own.keys3)

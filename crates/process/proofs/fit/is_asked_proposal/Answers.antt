@@ -2,7 +2,7 @@
 use mathlib.Core.Path.{◌≡◌, sym, ◌∙◌}
 use mathlib.Core.Bool.{true}
 use lib.Dec.{eqb}
-use borrow.Author.Tests.{eq-eqb, ne_eqb, not-true, not-false}
+use borrow.Author.Tests.{eq-eqb, ne_eqb}
 use Rattle.process.specs.Fits.{is_asked_proposal}
 use Rattle.space.specs.Shapes.{process_of, round_of, is_proposal}
 use Rattle.tuple.specs.Faults.{is_entry}
@@ -11,14 +11,14 @@ use Rattle.process.proofs.fit.is_asked_proposal.Goals as goal
 
 pub returns-then-not-is_entry : goal.returns-then-not-is_entry
 unfolding is_asked_proposal
-returns-then-not-is_entry c = rw (sym c.is_entry.ensures ∙ not-true _ c.if-not-is_entry.true-raw)
+returns-then-not-is_entry c = rw (sym c.is_entry.ensures ∙ c.if-not-is_entry.true)
 
 -- the tests that were passed
 entry : (c : Else-not-is_entry) → is_entry c.args.tuple ≡ true
-entry c = sym c.is_entry.ensures ∙ not-false _ c.if-not-is_entry.false-raw
+entry c = sym c.is_entry.ensures ∙ c.if-not-is_entry.false
 
 proposal : (c : Else-not-is_proposal) → is_proposal c.args.tuple ≡ true
-proposal c = sym c.is_proposal.ensures ∙ not-false _ c.if-not-is_proposal.false-raw
+proposal c = sym c.is_proposal.ensures ∙ c.if-not-is_proposal.false
 
 in-round : (c : Else-second-round) → let a = c.args in eqb (round_of a.tuple) a.round ≡ true
 in-round c = eq-eqb _ _ c.if-second-round.false
@@ -29,7 +29,7 @@ of-asked c = eq-eqb _ _ c.if-third-asked.false
 
 pub returns-then-not-is_proposal : goal.returns-then-not-is_proposal
 unfolding is_asked_proposal
-returns-then-not-is_proposal c = rw (entry (goal.at.returns-then-not-is_proposal c).Else-not-is_entry, sym c.is_proposal.ensures ∙ not-true _ c.if-not-is_proposal.true-raw)
+returns-then-not-is_proposal c = rw (entry (goal.at.returns-then-not-is_proposal c).Else-not-is_entry, sym c.is_proposal.ensures ∙ c.if-not-is_proposal.true)
 
 pub returns-then-second-round : goal.returns-then-second-round
 unfolding is_asked_proposal

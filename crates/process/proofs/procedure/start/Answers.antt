@@ -1,7 +1,7 @@
 -- `process::start` meets its contract: its tests are the definition's.
 use mathlib.Core.Path.{◌≡◌, sym, ◌∙◌}
 use mathlib.Core.Bool.{true}
-use borrow.Author.Tests.{lt-ltb, le-ltb, not-true, not-false}
+use borrow.Author.Tests.{lt-ltb, le-ltb}
 use Rattle.process.specs.Asks.{out_call}
 use Rattle.process.specs.Procedure.{proposable, started}
 use Rattle.process.specs.States.{startable}
@@ -16,14 +16,14 @@ use Rattle.process.proofs.procedure.start.Goals as goal
 
 pub returns-then-not-startable : goal.returns-then-not-startable
 unfolding started
-returns-then-not-startable c = c.unstarted.ensures ∙ sym (rw (sym c.startable.ensures ∙ not-true _ c.if-not-startable.true-raw))
+returns-then-not-startable c = c.unstarted.ensures ∙ sym (rw (sym c.startable.ensures ∙ c.if-not-startable.true))
 
 -- the tests that were passed
 able : (c : Else-not-startable) → startable c.args.config ≡ true
-able c = sym c.startable.ensures ∙ not-false _ c.if-not-startable.false-raw
+able c = sym c.startable.ensures ∙ c.if-not-startable.false
 
 member : (c : Else-not-knows) → let a = c.args in known a.config a.process ≡ true
-member c = sym c.knows.ensures ∙ not-false _ c.if-not-knows.false-raw
+member c = sym c.knows.ensures ∙ c.if-not-knows.false
 
 in-rounds : (c : Else-round-ge-ROUNDS) → in_rounds c.args.round ≡ true
 in-rounds c = lt-ltb _ rounds c.if-round-ge-ROUNDS.false
@@ -34,7 +34,7 @@ coded c = sym c.encode.ensures ∙ c.in-Code.is
 pub returns-then-not-knows : goal.returns-then-not-knows
 unfolding started
 returns-then-not-knows c =
-    c.unstarted-then-not-knows.ensures ∙ sym (rw (able (goal.at.returns-then-not-knows c).Else-not-startable, sym c.knows.ensures ∙ not-true _ c.if-not-knows.true-raw))
+    c.unstarted-then-not-knows.ensures ∙ sym (rw (able (goal.at.returns-then-not-knows c).Else-not-startable, sym c.knows.ensures ∙ c.if-not-knows.true))
 
 pub returns-then-round-ge-ROUNDS : goal.returns-then-round-ge-ROUNDS
 unfolding started
@@ -58,7 +58,7 @@ proposes c =
 pub returns-then-not-offered : goal.returns-then-not-offered
 unfolding started
 returns-then-not-offered c =
-    c.unstarted-then-not-offered.ensures ∙ sym (rw (able (goal.at.returns-then-not-offered c).Else-not-startable, member (goal.at.returns-then-not-offered c).Else-not-knows, in-rounds (goal.at.returns-then-not-offered c).Else-round-ge-ROUNDS, (proposes (goal.at.returns-then-not-offered c).After-offered).0 ∙ not-true _ c.if-not-offered.true-raw))
+    c.unstarted-then-not-offered.ensures ∙ sym (rw (able (goal.at.returns-then-not-offered c).Else-not-startable, member (goal.at.returns-then-not-offered c).Else-not-knows, in-rounds (goal.at.returns-then-not-offered c).Else-round-ge-ROUNDS, (proposes (goal.at.returns-then-not-offered c).After-offered).0 ∙ c.if-not-offered.true))
 
 pub returns : goal.returns
 unfolding started
@@ -66,4 +66,4 @@ returns c =
     let offset = proposes (goal.at.returns c).After-offered in
     let a = c.args in
     let call : c.out_call.result ≡ out_call a.process a.round c.in-Code.code = c.out_call.ensures in
-    rw (call, able (goal.at.returns c).Else-not-startable, member (goal.at.returns c).Else-not-knows, in-rounds (goal.at.returns c).Else-round-ge-ROUNDS, offset.0 ∙ not-false _ c.if-not-offered.false-raw, offset.1)
+    rw (call, able (goal.at.returns c).Else-not-startable, member (goal.at.returns c).Else-not-knows, in-rounds (goal.at.returns c).Else-round-ge-ROUNDS, offset.0 ∙ c.if-not-offered.false, offset.1)

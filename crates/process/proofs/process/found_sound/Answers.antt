@@ -4,7 +4,6 @@ use Prim.Native.Nat.{ℕ, ◌-◌, ◌<◌}
 use native.Mathlib.Omega.{arith}
 use mathlib.Core.List.{[]}
 use lib.ListN.{length, drop, drop_of_length-le}
-use borrow.Author.Tests.{not-true, not-false}
 use Rattle.process.specs.States.{found_sound}
 use Rattle.process.proofs.Lengths.{all-places}
 use Rattle.process.proofs.StateSteps.{found-more, found-stop, found-end}
@@ -20,17 +19,16 @@ inside c = omega (arith, all-places c.args.found _ c.well_formed.1.0)
 
 pub returns-then-not-code_sound : goal.returns-then-not-code_sound
 returns-then-not-code_sound c =
-    found-stop c.args.config c.args.n c.args.found c.loop-i.i (inside (goal.at.returns-then-not-code_sound c).In-loop-i) (sym c.code_sound.ensures ∙ not-true _ c.if-not-code_sound.true-raw) ∙ c.loop-i.invariant.1
+    found-stop c.args.config c.args.n c.args.found c.loop-i.i (inside (goal.at.returns-then-not-code_sound c).In-loop-i) (sym c.code_sound.ensures ∙ c.if-not-code_sound.true) ∙ c.loop-i.invariant.1
 
 pub loop-i-smaller : goal.loop-i-smaller
 loop-i-smaller c = omega arith
 
 pub loop-i-preserved : goal.loop-i-preserved
-loop-i-preserved c =
-    (
-      omega arith,
-      found-more c.args.config c.args.n c.args.found c.loop-i.i (inside (goal.at.loop-i-preserved c).In-loop-i) (sym c.code_sound.ensures ∙ not-false _ c.if-not-code_sound.false-raw) ∙ c.loop-i.invariant.1,
-    )
+loop-i-preserved c = (
+  omega arith,
+  found-more c.args.config c.args.n c.args.found c.loop-i.i (inside (goal.at.loop-i-preserved c).In-loop-i) (sym c.code_sound.ensures ∙ c.if-not-code_sound.false) ∙ c.loop-i.invariant.1,
+)
 
 pub returns : goal.returns
 returns c =

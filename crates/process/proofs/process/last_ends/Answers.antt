@@ -3,7 +3,6 @@ use borrow.Author.Rules.{rules}
 use mathlib.Core.Path.{◌≡◌, refl, sym, ap, ◌∙◌}
 use Prim.Native.Nat.{◌≤◌}
 use native.Mathlib.Omega.{arith}
-use borrow.Author.Tests.{not-true, not-false}
 use Rattle.process.specs.States.{last_ends}
 use Rattle.process.proofs.StateSteps.{sound-few, last-here, last_more, last_none}
 use Rattle.space.specs.Bounds.{processes}
@@ -20,13 +19,16 @@ range c = sound-few c.args.config c.requires
 pub offset_bounds-less-k : goal.offset_bounds-less-k
 offset_bounds-less-k c = let most = range c in search rules
 
+pub bounds-less-k : goal.bounds-less-k
+bounds-less-k c = omega (arith, range c)
+
 pub settled-requires : goal.settled-requires
 settled-requires c = (range c).1
 
 pub returns-then-not-settled : goal.returns-then-not-settled
 returns-then-not-settled c =
     let a = c.args in
-    last-here a.config a.found c.loop-k.k c.loop-k-test.true (sym c.settled.ensures ∙ not-true _ c.if-not-settled.true-raw) ∙ c.loop-k.invariant.1
+    last-here a.config a.found c.loop-k.k c.loop-k-test.true (sym c.settled.ensures ∙ c.if-not-settled.true) ∙ c.loop-k.invariant.1
 
 pub loop-k-smaller : goal.loop-k-smaller
 loop-k-smaller c = omega arith
@@ -35,7 +37,7 @@ pub loop-k-preserved : goal.loop-k-preserved
 loop-k-preserved c =
     let a = c.args in (
       omega arith,
-      last_more a.config a.found c.loop-k.k c.loop-k-test.true (sym c.settled.ensures ∙ not-false _ c.if-not-settled.false-raw) ∙ c.loop-k.invariant.1,
+      last_more a.config a.found c.loop-k.k c.loop-k-test.true (sym c.settled.ensures ∙ c.if-not-settled.false) ∙ c.loop-k.invariant.1,
     )
 
 pub returns : goal.returns

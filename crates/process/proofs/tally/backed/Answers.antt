@@ -1,6 +1,6 @@
 -- `process::tally::backed` meets its contract. The loop's invariant: no offset passed is backed enough, so that those left decide.
 use mathlib.Core.Path.{refl, sym, ◌∙◌}
-use Prim.Native.Nat.{◌-◌, ◌<◌}
+use Prim.Native.Nat.{◌<◌}
 use native.Mathlib.Omega.{arith}
 use lib.ListN.{length}
 use Rattle.process.specs.Tallies.{backed}
@@ -25,11 +25,10 @@ pub loop-i-smaller : goal.loop-i-smaller
 loop-i-smaller c = omega arith
 
 pub loop-i-preserved : goal.loop-i-preserved
-loop-i-preserved c =
-    (
-      omega arith,
-      backed-more c.args.t c.args.found c.loop-i.i (inside (goal.at.loop-i-preserved c).In-loop-i) (sym c.is_backed.ensures ∙ c.if-is_backed.false) ∙ c.loop-i.invariant.1,
-    )
+loop-i-preserved c = (
+  omega arith,
+  backed-more c.args.t c.args.found c.loop-i.i (inside (goal.at.loop-i-preserved c).In-loop-i) (sym c.is_backed.ensures ∙ c.if-is_backed.false) ∙ c.loop-i.invariant.1,
+)
 
 pub returns : goal.returns
 returns c =

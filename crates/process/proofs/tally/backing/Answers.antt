@@ -1,10 +1,9 @@
 -- `process::tally::backing` meets its contract. The loop's invariant: those counted and those left are all, and no more are counted than passed.
 use borrow.Author.Rules.{rules}
-use Prim.Native.Nat.{◌-◌, ◌≤◌, ◌<◌}
+use Prim.Native.Nat.{◌≤◌, ◌<◌}
 use native.Mathlib.Nat.{zero-add}
 use native.Mathlib.Omega.{arith}
 use lib.ListN.{length, get_or}
-use Rattle.process.specs.Tallies.{backing}
 use Rattle.process.proofs.Lengths.{all-places}
 use Rattle.process.proofs.TallySteps.{one-most, backing-step, backing-end}
 use Rattle.process.proofs.tally.backing.Goals.{After-bit-total, In-loop-i}

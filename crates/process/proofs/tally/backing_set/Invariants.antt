@@ -1,6 +1,6 @@
 -- `process::tally::backing_set` meets its contract. The loop's invariant: the set is that of the places passed, from the last on.
 use mathlib.Core.Path.{◌≡◌}
-use Prim.Native.Nat.{◌-◌, ◌≤◌}
+use Prim.Native.Nat.{◌≤◌}
 use lib.ListN.{drop}
 use Rattle.process.specs.Tallies.{backing_set}
 use Rattle.space.specs.Bounds.{processes}

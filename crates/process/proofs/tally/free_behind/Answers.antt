@@ -1,6 +1,6 @@
 -- `process::tally::free_behind` meets its contract. The loop's invariant: none of the places passed is free, so that those left decide.
 use mathlib.Core.Path.{refl, ◌∙◌}
-use Prim.Native.Nat.{◌-◌, ◌<◌}
+use Prim.Native.Nat.{◌<◌}
 use native.Mathlib.Omega.{arith}
 use lib.ListN.{length}
 use Rattle.process.proofs.Lengths.{all-places}
@@ -23,11 +23,10 @@ pub loop-i-smaller : goal.loop-i-smaller
 loop-i-smaller c = omega arith
 
 pub loop-i-preserved : goal.loop-i-preserved
-loop-i-preserved c =
-    (
-      omega arith,
-      free_more c.args.n c.args.found c.loop-i.i c.loop-i-test.true (inside (goal.at.loop-i-preserved c).In-loop-i) c.if-found-i-eq0.false ∙ c.loop-i.invariant.1,
-    )
+loop-i-preserved c = (
+  omega arith,
+  free_more c.args.n c.args.found c.loop-i.i c.loop-i-test.true (inside (goal.at.loop-i-preserved c).In-loop-i) c.if-found-i-eq0.false ∙ c.loop-i.invariant.1,
+)
 
 pub returns : goal.returns
 returns c = free-end c.args.n c.args.found c.loop-i.i c.loop-i-test.false ∙ c.loop-i.invariant.1

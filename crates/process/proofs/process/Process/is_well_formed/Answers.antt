@@ -1,7 +1,7 @@
 -- `process::Process::is_well_formed` meets its contract: its tests are the definition's.
 use mathlib.Core.Path.{◌≡◌, sym, ◌∙◌}
 use mathlib.Core.Bool.{true}
-use borrow.Author.Tests.{lt-ltb, le-ltb, not-true, not-false}
+use borrow.Author.Tests.{lt-ltb, le-ltb}
 use Rattle.process.specs.States.{startable, well_formed}
 use Rattle.process.proofs.StateSteps.{startable-sound}
 use Rattle.space.specs.Bounds.{rounds}
@@ -11,18 +11,18 @@ use Rattle.process.proofs.process.Process.is_well_formed.Goals as goal
 
 pub returns-then-not-startable : goal.returns-then-not-startable
 unfolding well_formed
-returns-then-not-startable c = rw (sym c.startable.ensures ∙ not-true _ c.if-not-startable.true-raw)
+returns-then-not-startable c = rw (sym c.startable.ensures ∙ c.if-not-startable.true)
 
 -- the tests that were passed
 able : (c : Else-not-startable) → startable c.args.self.config ≡ true
-able c = sym c.startable.ensures ∙ not-false _ c.if-not-startable.false-raw
+able c = sym c.startable.ensures ∙ c.if-not-startable.false
 
 member : (c : Else-not-knows) → let self = c.args.self in known self.config self.process ≡ true
-member c = sym c.knows.ensures ∙ not-false _ c.if-not-knows.false-raw
+member c = sym c.knows.ensures ∙ c.if-not-knows.false
 
 pub returns-then-not-knows : goal.returns-then-not-knows
 unfolding well_formed
-returns-then-not-knows c = rw (able (goal.at.returns-then-not-knows c).Else-not-startable, sym c.knows.ensures ∙ not-true _ c.if-not-knows.true-raw)
+returns-then-not-knows c = rw (able (goal.at.returns-then-not-knows c).Else-not-startable, sym c.knows.ensures ∙ c.if-not-knows.true)
 
 pub returns-then-self-ge-ROUNDS : goal.returns-then-self-ge-ROUNDS
 unfolding well_formed

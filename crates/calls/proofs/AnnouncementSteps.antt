@@ -94,7 +94,7 @@ module _ (config : Config) (safe : sound config ≡ true) (five : config.policy 
   taken off i inside matched = by_kind (keeps.each _ (stands tuples i inside))
     where
       by_kind : Kind config (get_or tuples i blank_tuple) → (is_announcement (get_or tuples i blank_tuple) ≡ true) × (announcer_of (get_or tuples i blank_tuple) ≡ call.process)
-      by_kind (Kind.in_List shape first most) = absurd (false≢true (sym (four-other call.template (get_or tuples i blank_tuple) off.four matched) ∙ shape))
+      by_kind (Kind.in_list shape first most) = absurd (false≢true (sym (four-other call.template (get_or tuples i blank_tuple) off.four matched) ∙ shape))
       by_kind (Kind.waits is shape some few) = (shape, taken_own call off (get_or tuples i blank_tuple) shape matched)
 
   obeyed-does : Obeyed space call → Does config tuples call

@@ -1,5 +1,5 @@
 -- Refusals 7, 12 and 13, refused calls and well-formed spaces: what a call answers and leaves, in document 01's words.
-use mathlib.Core.Path.{◌≡◌, refl, sym, ap, ◌∙◌, subst}
+use mathlib.Core.Path.{◌≡◌, refl, sym, ap, subst}
 use Prim.Native.Nat.{◌≤◌}
 use mathlib.Core.Bool.{true}
 use native.Mathlib.Omega.{arith}
@@ -16,7 +16,7 @@ use Rattle.calls.proofs.CallSteps.{Puts, Moves, moves, denial-late, denial-never
 use Rattle.calls.proofs.RunSteps.{next, run-tidy, run-formed}
 use Rattle.policy.specs.Laws.{Denial}
 use Rattle.policy.specs.declared.verdicts.Verdict.TheVariants.{Permit}
-use Rattle.policy.specs.Policies.{verdict_on, verdict}
+use Rattle.policy.specs.Policies.{verdict_on}
 use Rattle.space.specs.declared.space.Space.{Space}
 use Rattle.space.specs.Configs.{known}
 use Rattle.space.specs.Spaces.{held, well_formed}

@@ -2,12 +2,12 @@
 use mathlib.Core.Path.{◌≡◌, refl}
 use Prim.Native.Nat.{ℕ, ◌+◌, ◌≤◌, ◌<◌}
 use native.Mathlib.Omega.{arith}
-use mathlib.Core.Bool.{Bool, true, false, cond, not, ◌&&◌, ◌||◌, and-eq-true_iff}
+use mathlib.Core.Bool.{Bool, true, false, cond, not, ◌&&◌, ◌||◌}
 use mathlib.Core.List.Memᴰ
 use mathlib.Core.List.{List, [], ◌∷◌, ◌++◌}
 use mathlib.Core.Logic.{◌⊎◌, inl, inr, ⊎_elim}
 use lib.ListN.{length, take, length-append, length-take, length-drop}
-use lib.Dec.{leb, ltb, eqb}
+use lib.Dec.{leb, eqb}
 use borrow.Author.Tests.{ltb-true, ltb-false, eqb-true, eqb-false}
 use borrow.Table.Steps.{cases}
 use Rattle.calls.specs.declared.change.Change.{Change}
@@ -23,13 +23,13 @@ use Rattle.calls.proofs.TabledSteps.{taken-bare, put-fits, tabled-more, tabled-b
 use Rattle.policy.specs.declared.verdicts.Verdict.TheVariants.{Permit}
 use Rattle.policy.specs.Laws.{Denial}
 use Rattle.policy.specs.Laws.Denial.{denied, second, unborne}
-use Rattle.policy.specs.Policies.{verdict_on, verdict}
+use Rattle.policy.specs.Policies.{verdict_on}
 use Rattle.policy.specs.Verdicts.{demand}
 use Rattle.policy.proofs.PolicyLaws.{verdict-rule}
 use Rattle.space.specs.declared.config.Config.{Config}
 use Rattle.space.specs.declared.space.Space.{Space}
 use Rattle.space.specs.Configs.{known}
-use Rattle.space.specs.Spaces.{held, space_of, bounded, well_formed}
+use Rattle.space.specs.Spaces.{held, space_of, well_formed}
 use Rattle.space.proofs.SpaceRules.{Lawful, mem-take, mem-drop}
 use Rattle.tuple.specs.declared.fault.Fault.{Fault}
 use Rattle.tuple.specs.declared.fault.Fault.TheVariants.{Absent, Present}

@@ -23,7 +23,7 @@ use Rattle.calls.proofs.ListingLaws.{list-call, next-inserted, next-space, annou
 use Rattle.calls.proofs.RunSteps.{Goes, Run, next, none-lawful, held-run, fresh-space}
 use Rattle.calls.proofs.SumLaws.{after-append}
 use Rattle.policy.specs.Listing.{positions, is_list_call, is_new, begins, follows, preferred, owed, is_due, may_list, may_announce, shared}
-use Rattle.policy.specs.Policies.{verdict_on, verdict}
+use Rattle.policy.specs.Policies.{verdict_on}
 use Rattle.policy.proofs.AnnouncingLaws.{lists-five, due-rule}
 use Rattle.space.specs.declared.config.Config.{Config}
 use Rattle.space.specs.declared.space.Space.{Space}
@@ -61,9 +61,9 @@ cas-stays : {config : Config} {space : Space} (calls : List Call) → ((call : C
     → Memᴰ tuple run.tuples → Memᴰ tuple (held (after space calls))
 unfolding last_of turns_from
 cas-stays [] each run tuple m = rw (held-run run) m
-cas-stays (call ∷ calls) each run tuple m =
+cas-stays {config = config} {space = space} (call ∷ calls) each run tuple m =
     let step = next {call = call} run in
-    cas-stays calls (λ c o. each c (mathlib.Core.List.Memᴰ.tail o)) step.run tuple (goes-stays tuple (each call (mathlib.Core.List.Memᴰ.head refl)) step.goes m)
+    cas-stays {space = (applied space call).space} calls (λ c o. each c (mathlib.Core.List.Memᴰ.tail o)) step.run tuple (goes-stays tuple (each call (mathlib.Core.List.Memᴰ.head refl)) step.goes m)
 
 -- ---- filling positions
 
@@ -235,11 +235,11 @@ module _ (config : Config) (safe : sound config ≡ true) (five : config.policy 
     abbrev one_more : List Tuple
     one_more = tuples ++ (waiting ∷ [])
 
-    same_from : length (list_of one_more) ≡ from
-    same_from = ap length (announced-list tuples state none)
+    same-from : length (list_of one_more) ≡ from
+    same-from = ap length (announced-list tuples state none)
 
     fill : Filled one_more many
-    fill = filled many one_more (announced-state tuples state none) (omega (arith, same_from)) (λ i late near. others i (omega (arith, same_from)) (omega (arith, same_from)))
+    fill = filled many one_more (announced-state tuples state none) (omega (arith, same-from)) (λ i late near. others i (omega (arith, same-from)) (omega (arith, same-from)))
 
     behind : (early : List Call) → last config (before ++ (announce ∷ early)) ≡ after (space_of config one_more) early
     unfolding last_of turns_from
@@ -249,7 +249,7 @@ module _ (config : Config) (safe : sound config ≡ true) (five : config.policy 
         ∙ ap (λ (a : Applied). after a.space early) (announced tuples state none)
 
     ended : last config (before ++ (announce ∷ calls)) ≡ space_of config fill.end
-    ended = behind calls ∙ ap (λ (k : ℕ). after (space_of config one_more) (fills helper (k + 1) many)) (sym same_from) ∙ fill.space
+    ended = behind calls ∙ ap (λ (k : ℕ). after (space_of config one_more) (fills helper (k + 1) many)) (sym same-from) ∙ fill.space
 
     early-list : length (list_after config before) ≡ from
     early-list = ap (λ (s : Space). length (list_of (held s))) opened ∙ ap (λ (l : List Tuple). length (list_of l)) (held_of config tuples)
@@ -257,7 +257,7 @@ module _ (config : Config) (safe : sound config ≡ true) (five : config.policy 
     helped-run : HelpedRun config process
     helped-run =
         let end = fill.end in
-        let inside : from < length (list_of end) = omega (arith, same_from, fill.long) in
+        let inside : from < length (list_of end) = omega (arith, same-from, fill.long) in
         let lists : list_after config (before ++ (announce ∷ calls)) ≡ list_of end = ap (λ (s : Space). list_of (held s)) ended ∙ ap list_of (held_of config end) in
         let lost-to = listed-mem end (stands (list_of end) from inside) in
         record {
@@ -278,7 +278,7 @@ module _ (config : Config) (safe : sound config ≡ true) (five : config.policy 
           lost = rw (lists, early-list) (fill.state.entries _ lost-to.0 lost-to.1).0;
           position = from + many + 1;
           soon = omega (arith, early-list);
-          helped = rw ended (helped-inserted end fill.state (fill.grows waiting (mathlib.Core.List.Memᴰ.append_right tuples (mathlib.Core.List.Memᴰ.head refl))) (from + many + 1) (omega (arith, same_from, fill.long)) short prefers);
+          helped = rw ended (helped-inserted end fill.state (fill.grows waiting (mathlib.Core.List.Memᴰ.append_right tuples (mathlib.Core.List.Memᴰ.head refl))) (from + many + 1) (omega (arith, same-from, fill.long)) short prefers);
         }
 
 -- ---- for every process

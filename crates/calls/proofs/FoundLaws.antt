@@ -2,16 +2,15 @@
 use mathlib.Core.Path.{◌≡◌, refl}
 use mathlib.Core.Bool.{true, cond}
 use borrow.Table.Steps.{cases}
-use Rattle.calls.specs.declared.effect.Effect.{Effect}
 use Rattle.calls.specs.Effects.{refuses}
 use Rattle.calls.specs.RunLaws.{JudgedFound}
-use Rattle.calls.specs.Turns.{behind_fault, first_refusal, judged_by, searched, judged}
+use Rattle.calls.specs.Turns.{behind_fault, first_refusal, searched, judged}
 use Rattle.policy.specs.Policies.{verdict_on, verdict}
 use Rattle.policy.specs.Verdicts.{demand}
 use Rattle.policy.proofs.AskedLaws.{verdict-found}
 use Rattle.space.specs.declared.space.Space.{Space}
 use Rattle.space.specs.Configs.{known}
-use Rattle.space.specs.Spaces.{held, bounded, well_formed}
+use Rattle.space.specs.Spaces.{held, well_formed}
 use Rattle.space.proofs.SpaceRules.{formed-bounded}
 use Rattle.space.proofs.TableSteps.{known_some}
 use Rattle.tuple.specs.declared.fault.Fault.{Fault}

@@ -1,6 +1,6 @@
 -- What each policy says on boards that no run makes: each row computes.
 use mathlib.Core.Path.{◌≡◌, refl}
-use mathlib.Core.Bool.{true, false}
+use mathlib.Core.Bool.{false}
 use mathlib.Core.List.{List}
 use lib.Count.{ones}
 use Rattle.calls.specs.Turns.{applied}

@@ -1,8 +1,8 @@
 -- An announcement that stands while the positions behind its out are filled, up to one that prefers its process, is listed there or before. From what one
 -- call does.
 use mathlib.Core.Path.{◌≡◌, refl, sym, ap, ◌∙◌, subst}
-use mathlib.Core.Logic.{◌⊎◌, ⊎_elim}
-use Prim.Native.Nat.{ℕ, ◌+◌, ◌-◌, ◌*◌, ◌/◌, ◌%◌, ◌≤◌, ◌<◌}
+use mathlib.Core.Logic.{⊎_elim}
+use Prim.Native.Nat.{ℕ, ◌+◌, ◌*◌, ◌/◌, ◌%◌, ◌≤◌, ◌<◌}
 use native.Mathlib.Nat.{mod-lt, mod_self, mod-eq_of_lt, div-add-mod, mul-add-mod_self_left}
 use native.Mathlib.Omega.{arith}
 use mathlib.Core.Bool.{true}
@@ -147,7 +147,7 @@ module _ (config : Config) (safe : sound config ≡ true) (five : config.policy 
 announcement-shape : {config : Config} {process serial code : ℕ} → Kind config (announcement process serial code)
     → (is_announcement (announcement process serial code) ≡ true) × (1 ≤ process) × (process ≤ config.n)
 unfolding has_shape
-announcement-shape (Kind.in_List shape first most) = let z : ◌≡◌ {A = ℕ} 0 1 = cc in absurd (omega arith)
+announcement-shape (Kind.in_list shape first most) = let z : ◌≡◌ {A = ℕ} 0 1 = cc in absurd (omega arith)
 announcement-shape (Kind.waits five shape some few) = (shape, some, few)
 
 module _ (config : Config) (before calls : List Call) (process serial code : ℕ) (safe : sound config ≡ true) (five : config.policy ≡ 5)

@@ -1,7 +1,7 @@
 -- What a call does under policies 4 and 5: the list tuples held are a list in the order of its positions, each other tuple is an announcement, one to a
 -- process, and a call changes nothing, or puts the next entry or an announcement, or takes an announcement off.
 use mathlib.Core.Path.{◌≡◌, refl, sym, ap, ◌∙◌, subst}
-use mathlib.Core.Logic.{◌⊎◌, ⊎_elim}
+use mathlib.Core.Logic.{⊎_elim}
 use Prim.Native.Nat.{ℕ, zero, suc, ◌+◌, ◌-◌, ◌≤◌, ◌<◌}
 use native.Mathlib.Omega.{arith}
 use mathlib.Core.Bool.{true, false, cond, and-eq-true_iff}

@@ -67,7 +67,7 @@ all_listed (tuple ∷ tuples) each =
     rw (each tuple (Memᴰ.head refl)) (ap (λ (l : List Tuple). tuple ∷ l) (all_listed tuples (λ t m. each t (Memᴰ.tail m))))
 
 kind-listed : {config : Config} {tuple : Tuple} → config.policy ≡ 4 → Kind config tuple → is_list_tuple tuple ≡ true
-kind-listed is-four (Kind.in_List shape first most) = shape
+kind-listed is-four (Kind.in_list shape first most) = shape
 kind-listed is-four (Kind.waits five shape some few) = absurd (omega arith)
 
 pub shared-whole : {config : Config} {tuples : List Tuple} → config.policy ≡ 4 → Shared config tuples → list_of tuples ≡ tuples
@@ -183,7 +183,7 @@ announcing-rules config calls safe five =
     }
   where
     only : {tuple : Tuple} → Kind config tuple → (is_list_tuple tuple ≡ true) ⊎ ((is_announcement tuple ≡ true) × (1 ≤ announcer_of tuple) × (announcer_of tuple ≤ config.n))
-    only (Kind.in_List shape first most) = inl shape
+    only (Kind.in_list shape first most) = inl shape
     only (Kind.waits is shape some few) = inr (shape, some, few)
 
 -- what its own process put
@@ -329,7 +329,7 @@ module _ (config : Config) (safe : sound config ≡ true) (shares : has_list con
         (oldest-rule.nowhere tuples (list_template position)).1 (λ j h. missed (get_or tuples j blank_tuple) (stands tuples j h) (keeps.each _ (stands tuples j h)))
       where
         missed : (tuple : Tuple) → Memᴰ tuple tuples → Kind config tuple → matches (list_template position) tuple ≡ false
-        missed tuple m (Kind.in_List shape low' high) =
+        missed tuple m (Kind.in_list shape low' high) =
             let at = orderly-all keeps.list tuple (mem-listed tuples m shape) in
             cases (matches (list_template position) tuple)
             (λ e. absurd (omega (arith, at.1, at.3.at, match-list (list_template position) tuple (list-template position) shape e)))

@@ -4,7 +4,7 @@ use mathlib.Core.Logic.{◌⊎◌, inl, inr}
 use Prim.Native.Nat.{◌≤◌, ◌<◌}
 use native.Mathlib.Omega.{arith}
 use mathlib.Core.Bool.{Bool, true, false, false≢true}
-use mathlib.Core.List.{List, []}
+use mathlib.Core.List.{[]}
 use lib.Dec.{ltb, eqb}
 use borrow.Author.Tests.{ltb-true, ltb-false, eqb-true, eqb-false}
 use borrow.Table.Steps.{cases}
@@ -14,8 +14,7 @@ use Rattle.calls.proofs.Advances.{Tidy, tidy-none, tidy-keeps}
 use Rattle.calls.proofs.ListSteps.{Shared, shared-none, list-keeps}
 use Rattle.calls.proofs.RunSteps.{fresh-space}
 use Rattle.calls.proofs.Walks.{never-from}
-use Rattle.space.specs.declared.config.Config.{Config}
-use Rattle.space.specs.Configs.{sound, has_list}
+use Rattle.space.specs.Configs.{has_list}
 use Rattle.space.proofs.ConfigLaws.{sound-range, has-list-rule}
 
 pub never-full : NeverFull

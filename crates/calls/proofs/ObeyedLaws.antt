@@ -1,8 +1,8 @@
 -- What a call that is obeyed answers and leaves, for each code, and the tuples left where one is taken off.
 use mathlib.Core.Path.{◌≡◌, refl, sym, ap, ◌∙◌}
-use Prim.Native.Nat.{ℕ, ◌+◌, ◌-◌, ◌<◌}
+use Prim.Native.Nat.{ℕ, ◌+◌, ◌-◌}
 use native.Mathlib.Omega.{arith}
-use mathlib.Core.List.{List, ◌++◌}
+use mathlib.Core.List.{List}
 use lib.ListN.{length, take, drop, get_or, length-append, length-take, length-drop, get_or-append}
 use lib.Seq.{length-take-le, get_or-append-add, get_or-take, get_or-drop}
 use borrow.Author.Tests.{lt-ltb}
@@ -11,7 +11,7 @@ use Rattle.calls.specs.declared.change.Change.TheVariants.{Keep, Append, Remove}
 use Rattle.calls.specs.declared.turn.Applied.{Applied}
 use Rattle.calls.specs.Changes.{without, carried_out}
 use Rattle.calls.specs.Effects.{answered, effect}
-use Rattle.calls.specs.Laws.{Obeyed, Answers, ObeyedRules, WithoutRules}
+use Rattle.calls.specs.Laws.{Answers, ObeyedRules, WithoutRules}
 use Rattle.calls.specs.Turns.{carried_by, applied}
 use Rattle.calls.proofs.CallLaws.{permitted-applied}
 use Rattle.calls.proofs.ChangeLaws.{carried-rules}
@@ -21,11 +21,9 @@ use Rattle.space.specs.Spaces.{held, space_of}
 use Rattle.space.proofs.SpaceRules.{held-lawful}
 use Rattle.tuple.specs.declared.field.Tuple.{Tuple}
 use Rattle.tuple.specs.declared.field.Call.{Call}
-use Rattle.tuple.specs.declared.matching.Found.TheVariants.{At, Nowhere}
 use Rattle.tuple.specs.declared.reply.Outcome.{Outcome}
 use Rattle.tuple.specs.Bounds.{capacity}
 use Rattle.tuple.specs.Fields.{blank_tuple}
-use Rattle.tuple.specs.Matching.{oldest_of}
 use Rattle.tuple.proofs.MatchRules.{oldest-rule}
 
 module _ (space : Space) (call : Call) where

@@ -15,7 +15,6 @@ use Rattle.calls.proofs.ListingLaws.{left, five-other}
 use Rattle.calls.proofs.ObeyedLaws.{obeyed-rules}
 use Rattle.policy.proofs.ListingLaws.{list-template, list-match, match-list, list-rdp-rule}
 use Rattle.space.specs.declared.config.Config.{Config}
-use Rattle.space.specs.Configs.{sound}
 use Rattle.space.specs.Lists.{is_list_tuple, position_of, Filled}
 use Rattle.space.specs.Spaces.{space_of}
 use Rattle.space.proofs.SpaceRules.{held_of, formed-of, stands, place}
@@ -58,7 +57,7 @@ module _ {config : Config} {tuples : List Tuple} (keeps : Shared config tuples) 
   matched tuple m e = elim-kind (keeps.each tuple m)
     where
       elim-kind : Kind config tuple → (is_list_tuple tuple ≡ true) × (position_of tuple ≡ position)
-      elim-kind (Kind.in_List shape first most) = (shape, sym (match-list (list_template position) tuple (list-template position) shape e))
+      elim-kind (Kind.in_list shape first most) = (shape, sym (match-list (list_template position) tuple (list-template position) shape e))
       elim-kind (Kind.waits five shape some few) = let other = five-other position tuple shape in let z : ◌≡◌ {A = ℕ} 0 1 = cc in absurd (omega arith)
 
   -- the tuple of a filled position is the oldest that matches

@@ -1,7 +1,7 @@
 -- What a process has read of the shared list stands there at the end of the run, so that all that have read 1 to m hold one sum. From what one call does.
 use mathlib.Core.Path.{◌≡◌, refl, sym, ap, ◌∙◌, subst}
 use mathlib.Core.Logic.{◌⊎◌, inl, inr, ⊎_elim}
-use Prim.Native.Nat.{ℕ, zero, suc, ◌+◌, ◌-◌, ◌≤◌, ◌<◌}
+use Prim.Native.Nat.{ℕ, ◌+◌, ◌-◌, ◌≤◌, ◌<◌}
 use native.Mathlib.Omega.{arith}
 use mathlib.Core.Bool.{true}
 use mathlib.Core.List.{List, [], ◌∷◌, Memᴰ}
@@ -14,9 +14,9 @@ use Rattle.calls.specs.declared.effect.Effect.{Effect}
 use Rattle.calls.specs.declared.turn.Applied.{Applied}
 use Rattle.calls.specs.Effects.{appends, rdp_effect, inp_effect, cas_effect, effect}
 use Rattle.calls.specs.ListLaws.{ReadWhen, ReadRule, SameSum, ShiftSums}
-use Rattle.calls.specs.Lists.{list_of, list_after, Tells, Read, ReadTo, hundredths, shift_sum}
+use Rattle.calls.specs.Lists.{list_of, list_after, Tells, ReadTo, hundredths, shift_sum}
 use Rattle.calls.specs.Lists.Tells.{finds, holds, inserts}
-use Rattle.calls.specs.Turns.{Turn, applied, turns_from, turns, last_of, after, last}
+use Rattle.calls.specs.Turns.{Turn, applied, turns_from, turns, last_of, after}
 use Rattle.calls.proofs.CallSteps.{Steps, steps}
 use Rattle.calls.proofs.ListSteps.{mem-listed, orderly-all, Shared, shared-none, Grown, list-advance}
 use Rattle.calls.proofs.ListingLaws.{left, grown-from}

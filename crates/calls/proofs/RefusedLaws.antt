@@ -3,7 +3,6 @@ use mathlib.Core.Path.{◌≡◌, refl, sym, ap, ◌∙◌, subst}
 use Prim.Native.Nat.{ℕ, ◌≤◌}
 use native.Mathlib.Omega.{arith}
 use mathlib.Core.Bool.{true, false, false≢true}
-use mathlib.Core.List.{List}
 use mathlib.Core.Logic.{inl, inr}
 use lib.ListN.{length}
 use borrow.Author.Tests.{le-leb, le-ltb}
@@ -11,13 +10,12 @@ use borrow.Table.Steps.{cases}
 use Rattle.calls.specs.declared.change.Change.{Change}
 use Rattle.calls.specs.declared.turn.Applied.{Applied}
 use Rattle.calls.specs.Effects.{effect}
-use Rattle.calls.specs.Laws.{Denied, Obeyed, RefusedBy, RefusedRule, RefusedReply}
+use Rattle.calls.specs.Laws.{Obeyed, RefusedBy, RefusedRule, RefusedReply}
 use Rattle.calls.specs.Laws.RefusedBy.{unformed, faulty, stranger, denied, full}
-use Rattle.calls.specs.Turns.{behind_fault, first_refusal, judged_by, searched, carried_by, applied}
+use Rattle.calls.specs.Turns.{behind_fault, first_refusal, judged_by, searched, applied}
 use Rattle.calls.proofs.CallLaws.{permitted-applied}
 use Rattle.calls.proofs.CallSteps.{Puts, Moves, moves}
-use Rattle.policy.specs.declared.verdicts.Verdict.TheVariants.{Permit}
-use Rattle.policy.specs.Policies.{verdict_on, verdict}
+use Rattle.policy.specs.Policies.{verdict_on}
 use Rattle.policy.specs.Verdicts.{demand}
 use Rattle.policy.proofs.PolicyLaws.{verdict-rule}
 use Rattle.space.specs.declared.space.Space.{Space}
@@ -25,7 +23,6 @@ use Rattle.space.specs.Configs.{known}
 use Rattle.space.specs.Spaces.{held, well_formed}
 use Rattle.tuple.specs.declared.fault.Fault.{Fault}
 use Rattle.tuple.specs.declared.fault.Fault.TheVariants.{Absent, Present}
-use Rattle.tuple.specs.declared.field.Tuple.{Tuple}
 use Rattle.tuple.specs.declared.field.Call.{Call}
 use Rattle.tuple.specs.declared.refusal.Refusal.{Refusal}
 use Rattle.tuple.specs.declared.reply.Outcome.{Outcome}

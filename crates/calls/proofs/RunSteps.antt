@@ -1,7 +1,6 @@
 -- Lists of calls of a sound configuration: each space is that of lawful tuples, and each call either is refused, not for room, and changes nothing, or
 -- moves them.
 use mathlib.Core.Path.{◌≡◌, refl, ap}
-use Prim.Native.Nat.{◌≤◌}
 use native.Mathlib.Omega.{arith}
 use mathlib.Core.Bool.{true}
 use mathlib.Core.List.Memᴰ
@@ -27,7 +26,7 @@ use Rattle.tuple.specs.declared.refusal.Refusal.{Refusal}
 use Rattle.tuple.specs.declared.reply.Outcome.{Outcome}
 use Rattle.tuple.specs.declared.reply.Outcome.TheVariants.{Refused}
 use Rattle.tuple.specs.Faults.{call_fault}
-use Rattle.tuple.specs.Refusals.{number_of, refusal}
+use Rattle.tuple.specs.Refusals.{number_of}
 
 -- ---- one call
 
@@ -95,4 +94,4 @@ fresh-run config s = record { tuples = []; lawful = none-lawful config; same = f
 pub after_run : {config : Config} {space : Space} (calls : List Call) → Run config space → Run config (after space calls)
 unfolding last_of turns_from
 after_run [] run = run
-after_run (call ∷ calls) run = after_run calls (next run).run
+after_run {config = config} {space = space} (call ∷ calls) run = after_run {space = (applied space call).space} calls (next run).run

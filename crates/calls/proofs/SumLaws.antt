@@ -86,9 +86,9 @@ sum-from : {config : Config} {space : Space} (calls : List Call) (run : Run conf
     → length (held (after space calls)) + removals (turns_from space calls) ≡ length run.tuples + additions (turns_from space calls)
 unfolding turns_from additions removals last_of
 sum-from [] run = rw (held-run run)
-sum-from (call ∷ calls) run =
+sum-from {config = config} {space = space} (call ∷ calls) run =
     let step = next {call = call} run in
-    omega (arith, goes-sum step.goes, sum-from calls step.run)
+    omega (arith, goes-sum step.goes, sum-from {space = (applied space call).space} calls step.run)
 
 pub sum-rule : SumRule
 unfolding turns fresh-run
@@ -110,10 +110,10 @@ grows_from : {config : Config} {space : Space} (calls : List Call) → NoInp con
     → (more : List Tuple) × (held (after space calls) ≡ run.tuples ++ more)
 unfolding last_of turns_from
 grows_from [] none run = ([], held-run run ∙ sym (append-nil run.tuples))
-grows_from (call ∷ calls) none run =
+grows_from {config = config} {space = space} (call ∷ calls) none run =
     let step = next {call = call} run in
     let here = goes-grows none step.goes in
-    let later = grows_from calls none step.run in
+    let later = grows_from {space = (applied space call).space} calls none step.run in
     (here.0 ++ later.0, later.1 ∙ ap (λ (l : List Tuple). l ++ later.0) here.1 ∙ append_assoc run.tuples here.0 later.0)
 
 pub after-append : (space : Space) (before calls : List Call) → after space (before ++ calls) ≡ after (after space before) calls

@@ -1,9 +1,8 @@
 -- What a permitted call does to the table: an entry that it puts fits, and a tuple is taken off only where the table is empty.
-use mathlib.Core.Path.{◌≡◌, refl, sym, ap, ◌∙◌}
-use mathlib.Core.Logic.{◌⊎◌, inl, inr, ⊎_elim}
-use mathlib.Core.Bool.{Bool, true, false, not, ◌&&◌, and-true, false≢true}
+use mathlib.Core.Path.{◌≡◌, refl, sym, ◌∙◌}
+use mathlib.Core.Logic.{◌⊎◌, ⊎_elim}
+use mathlib.Core.Bool.{Bool, true, false, not, ◌&&◌, false≢true}
 use mathlib.Core.List.{List, [], ◌∷◌, ◌++◌}
-use Prim.Native.Nat.{ℕ, ◌≤◌}
 use native.Mathlib.Omega.{arith}
 use lib.Dec.{eqb}
 use lib.ListN.{get_or}
@@ -22,7 +21,7 @@ use Rattle.space.specs.Shapes.{is_proposal, round_of, process_of}
 use Rattle.space.specs.Tables.{belongs, entered, empty_table, table_from, table_of, fits_table, tabled_from, tabled, code_at, proposed_in}
 use Rattle.space.proofs.ConfigLaws.{proposals-some}
 use Rattle.space.proofs.ProposalLaws.{proposed-rules}
-use Rattle.space.proofs.TableLaws.{Belongs, belongs-parts, place_of, table-append, tabled-append, table-out, tabled-proposed, fits-test, entered-out}
+use Rattle.space.proofs.TableLaws.{belongs-parts, place_of, table-append, tabled-append, table-out, tabled-proposed, fits-test}
 use Rattle.space.proofs.TableSteps.{place-test}
 use Rattle.tuple.specs.declared.field.Tuple.{Tuple}
 use Rattle.tuple.specs.declared.field.Call.{Call}

@@ -1,10 +1,10 @@
 -- Without the test of each space, calls from a fresh space make the same turns, since each space that they leave is well formed; and what is judged without it
 -- looks at the configuration, the count and the tuples held alone.
 use mathlib.Core.Path.{◌≡◌, refl, sym, ap, ◌∙◌}
-use mathlib.Core.Bool.{cond, true, false, and-false, ◌&&◌}
+use mathlib.Core.Bool.{cond, true, and-false, ◌&&◌}
 use mathlib.Core.List.{List, [], ◌∷◌}
 use native.Mathlib.Omega.{arith}
-use Prim.Native.Nat.{ℕ, ◌≤◌, ◌<◌}
+use Prim.Native.Nat.{ℕ}
 use lib.Dec.{leb}
 use lib.ListN.{length, length-take}
 use borrow.Author.Tests.{lt-leb}
@@ -13,7 +13,7 @@ use Rattle.calls.specs.declared.effect.Effect.{Effect}
 use Rattle.calls.specs.declared.turn.Applied.{Applied}
 use Rattle.calls.specs.Changes.{carried_out}
 use Rattle.calls.specs.RunLaws.{Unchecked, JudgedRules}
-use Rattle.calls.specs.Turns.{Turn, behind_fault, first_refusal, judged_by, judged, carried_by, applied, turns_from, turns, unchecked_from}
+use Rattle.calls.specs.Turns.{Turn, first_refusal, judged_by, judged, carried_by, applied, turns_from, turns, unchecked_from}
 use Rattle.calls.proofs.FoundLaws.{judged-found}
 use Rattle.calls.proofs.RunSteps.{Run, next, run-formed, fresh-run}
 use Rattle.space.specs.declared.config.Config.{Config}
@@ -23,13 +23,12 @@ use Rattle.policy.specs.Listing.{shared}
 use Rattle.policy.specs.Policies.{table_verdict, list_verdict, verdict}
 use Rattle.policy.specs.Verdicts.{demand}
 use Rattle.space.specs.Configs.{sound, has_list, blank_config}
-use Rattle.space.specs.Spaces.{held, space_of, bounded, well_formed, fresh_of, Entries}
+use Rattle.space.specs.Spaces.{held, space_of, bounded, well_formed, fresh_of}
 use Rattle.space.specs.Tables.{table_of}
 use Rattle.space.proofs.SpaceRules.{held_of, formed-of}
 use Rattle.tuple.specs.declared.field.Tuple.{Tuple}
 use Rattle.tuple.specs.declared.field.Call.{Call}
 use Rattle.tuple.specs.Bounds.{capacity}
-use Rattle.tuple.specs.Faults.{call_fault}
 use Rattle.tuple.specs.Refusals.{refusal}
 
 -- a call on a well-formed space does what it is judged to do
@@ -44,9 +43,9 @@ followed call rest done = record { call = call; reply = done.reply; space = done
 same-turns : {config : Config} {space : Space} → sound config ≡ true → (calls : List Call) → Run config space → unchecked_from space calls ≡ turns_from space calls
 unfolding turns_from unchecked_from
 same-turns safe [] run = refl
-same-turns {space = space} safe (call ∷ calls) run =
+same-turns {config = config} {space = space} safe (call ∷ calls) run =
     ap (followed call (λ (s : Space). unchecked_from s calls)) (formed-applied space call (run-formed safe run))
-    ∙ ap (λ (rest : List Turn). followed call (λ (s : Space). rest) (applied space call)) (same-turns safe calls (next run).run)
+    ∙ ap (λ (rest : List Turn). followed call (λ (s : Space). rest) (applied space call)) (same-turns {space = (applied space call).space} safe calls (next run).run)
 
 -- the blank space beside refusal 1 refuses each call 1
 unopened-turns : (calls : List Call) → unchecked_from (space_of blank_config []) calls ≡ turns_from (space_of blank_config []) calls

@@ -12,7 +12,6 @@ use Rattle.calls.proofs.Walks.{kept-after}
 use Rattle.policy.specs.Shapes.{is_weak_entry, decided_code}
 use Rattle.space.specs.declared.config.Config.{Config}
 use Rattle.space.specs.declared.space.Space.{Space}
-use Rattle.space.specs.Configs.{sound}
 use Rattle.space.specs.Spaces.{held}
 use Rattle.space.proofs.ConfigLaws.{proposals-some}
 use Rattle.space.proofs.SpaceRules.{held_of}

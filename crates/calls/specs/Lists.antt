@@ -1,5 +1,5 @@
 -- Document 02, 2.6 and 2.7: the shared list that a space holds, the calls that go on with it, what a process has read of it, and the sum of its shifts.
-use Rattle.std.specs.Prelude.{◌≡◌, ◌⊎◌, ℕ, ◌+◌, ◌<◌, ◌-◌, ◌≤◌, true, cond, length, get_or, ℤ, pos, ◌+ℤ◌}
+use Rattle.std.specs.Prelude.{◌≡◌, ◌⊎◌, ℕ, ◌+◌, ◌<◌, ◌≤◌, true, cond, length, get_or, ℤ, pos, ◌+ℤ◌}
 use mathlib.Core.List.{List, [], ◌∷◌, ◌++◌, Memᴰ}
 use Rattle.calls.specs.Turns.{Turn, applied, turns, last}
 use Rattle.space.specs.declared.config.Config.{Config}

@@ -1,6 +1,6 @@
 -- `calls::carry_out_unchecked` meets its contract: whether there is room, or a tuple at the place, decides. The loop's invariant: without the place before the
 -- loop's, the array is the first one without the tuple.
-use Prim.Native.Nat.{ℕ, ◌+◌, ◌-◌, ◌≤◌, ◌<◌}
+use Prim.Native.Nat.{ℕ, ◌+◌, ◌≤◌, ◌<◌}
 use mathlib.Core.Path.{sym, ap, ◌∙◌}
 use native.Mathlib.Omega.{arith}
 use mathlib.Core.Bool.{and-eq-true_iff}

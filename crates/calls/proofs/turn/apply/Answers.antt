@@ -1,7 +1,6 @@
 -- `calls::apply` meets its contract: refused 1 first of all, and past that what the call is judged to do, carried out.
 use mathlib.Core.Path.{◌≡◌, sym, ap, ◌∙◌}
 use mathlib.Core.Bool.{Bool, cond}
-use mathlib.Core.Logic.{⊎_elim}
 use Rattle.calls.specs.declared.change.Change.{Change}
 use Rattle.calls.specs.declared.effect.Effect.{Effect}
 use Rattle.calls.specs.declared.turn.Applied.{Applied}
@@ -10,19 +9,24 @@ use Rattle.calls.specs.Effects.{refuses}
 use Rattle.calls.specs.Turns.{judged, carried_by, applied}
 use Rattle.space.specs.declared.space.Space.{Space}
 use Rattle.space.specs.Spaces.{well_formed}
+use Rattle.tuple.specs.declared.field.Call.{Call}
 use Rattle.tuple.specs.Refusals.{refusal}
 use Rattle.calls.proofs.FoundLaws.{found-tested}
-use Rattle.calls.proofs.turn.apply.Goals.{After-is_well_formed, Joined-is_well_formed}
+use Rattle.calls.proofs.turn.apply.Goals.{Joined-is_well_formed, then-is_well_formed, else-is_well_formed}
 use Rattle.calls.proofs.turn.apply.Goals as goal
 
 -- whether the space is well formed decides
-abbrev by : After-is_well_formed → Bool → Effect
-by c test = let a = c.args in cond test (judged a.space a.call) (refuses (refusal 1))
+abbrev by : Space → Call → Bool → Effect
+by space call test = cond test (judged space call) (refuses (refusal 1))
 
-tested : (c : Joined-is_well_formed) → c.if-is_well_formed.effect ≡ by c.before (well_formed c.args.space)
+tested : (c : Joined-is_well_formed) → c.if-is_well_formed.effect ≡ by c.args.space c.args.call (well_formed c.args.space)
 tested c =
+    let a = c.args in
     let w = c.is_well_formed.ensures in
-    ⊎_elim (λ f. f.2 ∙ f.1.ensures ∙ ap (by c.before) (sym f.0.taken ∙ w)) (λ n. n.2 ∙ n.1.ensures ∙ ap (by c.before) (sym n.0.left ∙ w)) c.if-is_well_formed.branch
+    elim c.if-is_well_formed.branch [
+      | then-is_well_formed b ↦ b.effect-is ∙ b.judge_unchecked-effect.ensures ∙ ap (by a.space a.call) (sym b.if-is_well_formed.true ∙ w)
+      | else-is_well_formed b ↦ b.effect-is ∙ b.refused-effect.ensures ∙ ap (by a.space a.call) (sym b.if-is_well_formed.false ∙ w)
+    ]
 
 pub returns-in-Keep : goal.returns-in-Keep
 unfolding applied carried_out

@@ -33,7 +33,7 @@ behind_stranger config call next = demand (known config call.process) (refusal 6
 
 -- the call's fault, 3 to 5, then 6, then the policy's verdict
 unfoldable pub first_refusal : Config → Call → Verdict → Verdict
-first_refusal config call verdict = behind_fault (call_fault call) (behind_stranger config call verdict)
+first_refusal config call verdict = behind_fault (call_fault call) (demand (known config call.process) (refusal 6) verdict)
 
 -- what is refused changes nothing; a permitted call does what it does to the tuples held, where it may be refused 8
 abbrev pub judged_by : List Tuple → Call → Verdict → Effect

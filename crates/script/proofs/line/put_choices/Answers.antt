@@ -7,8 +7,8 @@ use Rattle.script.proofs.line.put_choices.Goals as goal
 pub returns-then-has_choices : goal.returns-then-has_choices
 unfolding choices_text
 returns-then-has_choices c =
-    record { value = rw (sym c.has_choices.ensures ∙ c.if-has_choices.true) (c.put_spaced.ensures.value, c.put_spaced.ensures.out_after).0; out_after = rw (sym c.has_choices.ensures ∙ c.if-has_choices.true) (c.put_spaced.ensures.value, c.put_spaced.ensures.out_after).1 }
+    record { value = rw (sym c.has_choices.ensures ∙ c.if-has_choices.true) c.put_spaced.ensures.value; out_after = rw (sym c.has_choices.ensures ∙ c.if-has_choices.true) c.put_spaced.ensures.out_after }
 
 pub returns-else-has_choices : goal.returns-else-has_choices
 unfolding choices_text
-returns-else-has_choices c = record { value = rw (sym c.has_choices.ensures ∙ c.if-has_choices.false) (omega arith, refl).0; out_after = rw (sym c.has_choices.ensures ∙ c.if-has_choices.false) (omega arith, refl).1 }
+returns-else-has_choices c = record { value = rw (sym c.has_choices.ensures ∙ c.if-has_choices.false) (omega arith); out_after = rw (sym c.has_choices.ensures ∙ c.if-has_choices.false) refl }

@@ -4,14 +4,13 @@
 use mathlib.Core.Path.{◌≡◌, refl, sym, ap, ◌∙◌, subst}
 use mathlib.Core.Bool.{true, false}
 use mathlib.Core.List.{List, ◌++◌}
-use mathlib.Core.Logic.{⊎_elim}
 use Prim.Native.Nat.{ℕ, ◌+◌, ◌-◌, ◌≤◌, ◌<◌, min}
 use native.Mathlib.Omega.{arith}
 use lib.ListN.{length, get_or, length-take}
-use borrow.Author.Tests.{not-true, not-false}
 use Rattle.script.specs.declared.steps.Stepped.{Stepped}
 use Rattle.script.specs.Laws.{StepRule}
 use Rattle.script.specs.Printing.{lines_on, unread_of}
+use Rattle.script.specs.Private.{sought_of}
 use Rattle.script.specs.Scripts.{records_at}
 use Rattle.script.specs.Steps.{effect_of}
 use Rattle.script.specs.Texts.{count_line, held_line}
@@ -24,297 +23,148 @@ use Rattle.calls.specs.declared.effect.Effect.{Effect}
 use Rattle.calls.specs.Changes.{carried_out}
 use Rattle.calls.specs.Turns.{behind_fault, behind_stranger, first_refusal, judged}
 use Rattle.calls.proofs.ChangeLaws.{moved_none, moved_more, moved_all}
+use Rattle.policy.specs.declared.verdicts.Verdict.{Verdict}
 use Rattle.policy.specs.Policies.{verdict}
 use Rattle.policy.proofs.LentLaws.{lent_found, asked-list}
+use Rattle.record.specs.declared.reader.ReadCall.{ReadCall}
 use Rattle.record.specs.Laws.{Read}
+use Rattle.record.specs.Reading.{call_at}
+use Rattle.space.specs.declared.config.Config.{Config}
 use Rattle.space.specs.declared.space.Space.{Space}
-use Rattle.space.specs.Spaces.{fresh_of}
+use Rattle.space.specs.Spaces.{well_formed, fresh_of}
 use Rattle.space.proofs.SpaceRules.{formed-bounded, formed-few}
 use Rattle.text.proofs.PlaceLaws.{wrote_then, wrote-length}
 use Rattle.tuple.specs.declared.fault.Fault.{Fault}
+use Rattle.tuple.specs.declared.fault.Fault.TheVariants.{Absent}
+use Rattle.tuple.specs.declared.field.Call.{Call}
 use Rattle.tuple.specs.declared.field.Tuple.{Tuple}
 use Rattle.tuple.specs.Bounds.{places, capacity}
-use Rattle.tuple.specs.Matching.{matches, oldest_of}
+use Rattle.tuple.specs.Faults.{call_fault}
+use Rattle.tuple.specs.Matching.{oldest_of}
 use Rattle.tuple.proofs.MatchingLaws as matching
-use Rattle.tuple.proofs.MatchingLaws.{Passed, passed-more, unequal, equal, uncounted}
-use Rattle.script.proofs.records.put_records.Goals.{After-call-read, After-loop-cursor, After-slice_known-in-loop-cursor-1, At-loop-j, At-tuples, Else-count-gone, In-loop-j, In-tuples, In_default}
+use Rattle.tuple.proofs.MatchingLaws.{passed-more, unequal, equal, uncounted}
+use Rattle.varint.specs.Reading.{Bytes}
+use Rattle.script.proofs.records.put_records.Goals.{In-tuples, In-loop-j, After-slice_known-in-loop-cursor-1, then-asks_tuples, else-asks_tuples, else-tuples-test, then-tuples-test+else-tuple-wanted+else-loop-j-test}
 use Rattle.script.proofs.records.put_records.Goals as goal
 
--- ---- the places of the code
+-- ---- a turn of the loop, over plain values
 
-abbrev After-call : Type 0
-After-call = tie.After-call invariant-loop2 decreases-loop2 invariant-tuples decreases-tuples invariant-loop3 decreases-loop3 invariant-loop decreases-loop
+-- its space is well formed and has all its places
+few : {s first : List ℕ} {at : ℕ} {whole out : List ℕ} {place here number : ℕ} {space : Space} → Left s first at whole out place here number space → space.count ≤ capacity
+few {space = space} left = formed-few space left.formed
 
-abbrev After-effect-by : Type 0
-After-effect-by = tie.After-effect-by invariant-loop2 decreases-loop2 invariant-tuples decreases-tuples invariant-loop3 decreases-loop3 invariant-loop decreases-loop
+long : {s first : List ℕ} {at : ℕ} {whole out : List ℕ} {place here number : ℕ} {space : Space} → Left s first at whole out place here number space
+    → length space.tuples ≡ capacity
+long {space = space} left = tidy-long space left.tidy (formed-few space left.formed)
 
-abbrev After-entry : Type 0
-After-entry = tie.After-entry invariant-loop2 decreases-loop2 invariant-tuples decreases-tuples invariant-loop3 decreases-loop3 invariant-loop decreases-loop
-
-abbrev After-enum-told : Type 0
-After-enum-told = tie.After-enum-told invariant-loop2 decreases-loop2 invariant-tuples decreases-tuples invariant-loop3 decreases-loop3 invariant-loop decreases-loop
-
-abbrev After-next : Type 0
-After-next = tie.After-next invariant-loop2 decreases-loop2 invariant-tuples decreases-tuples invariant-loop3 decreases-loop3 invariant-loop decreases-loop
-
-abbrev After-slice-known4 : Type 0
-After-slice-known4 = tie.After-slice-known4 invariant-loop2 decreases-loop2 invariant-tuples decreases-tuples invariant-loop3 decreases-loop3 invariant-loop decreases-loop
-
-abbrev At-loop : Type 0
-At-loop = tie.At-loop invariant-loop2 decreases-loop2 invariant-tuples decreases-tuples invariant-loop3 decreases-loop3 invariant-loop decreases-loop
-
-abbrev At-loop2 : Type 0
-At-loop2 = tie.At-loop2 invariant-loop2 decreases-loop2 invariant-tuples decreases-tuples invariant-loop3 decreases-loop3 invariant-loop decreases-loop
-
-abbrev At-loop3 : Type 0
-At-loop3 = tie.At-loop3 invariant-loop2 decreases-loop2 invariant-tuples decreases-tuples invariant-loop3 decreases-loop3 invariant-loop decreases-loop
-
-abbrev At-tuples : Type 0
-At-tuples = tie.At-tuples invariant-loop2 decreases-loop2 invariant-tuples decreases-tuples invariant-loop3 decreases-loop3 invariant-loop decreases-loop
-
-abbrev Else1 : Type 0
-Else1 = tie.Else1 invariant-loop2 decreases-loop2 invariant-tuples decreases-tuples invariant-loop3 decreases-loop3 invariant-loop decreases-loop
-
-abbrev Else6 : Type 0
-Else6 = tie.Else6 invariant-loop2 decreases-loop2 invariant-tuples decreases-tuples invariant-loop3 decreases-loop3 invariant-loop decreases-loop
-
-abbrev In-loop2 : Type 0
-In-loop2 = tie.In-loop2 invariant-loop2 decreases-loop2 invariant-tuples decreases-tuples invariant-loop3 decreases-loop3 invariant-loop decreases-loop
-
-abbrev In-tuples : Type 0
-In-tuples = tie.In-tuples invariant-loop2 decreases-loop2 invariant-tuples decreases-tuples invariant-loop3 decreases-loop3 invariant-loop decreases-loop
-
-abbrev Joined2 : Type 0
-Joined2 = tie.Joined2 invariant-loop2 decreases-loop2 invariant-tuples decreases-tuples invariant-loop3 decreases-loop3 invariant-loop decreases-loop
-
-abbrev Left-tuples : Type 0
-Left-tuples = tie.Left-tuples invariant-loop2 decreases-loop2 invariant-tuples decreases-tuples invariant-loop3 decreases-loop3 invariant-loop decreases-loop
-
-abbrev Start : Type 0
-Start = tie.Start invariant-loop2 decreases-loop2 invariant-tuples decreases-tuples invariant-loop3 decreases-loop3 invariant-loop decreases-loop
-
--- ---- a turn of the loop
-
-abbrev begun : At-loop → Start
-begun l = l.before.before.before.before
-
--- its space, which is well formed and has all its places
-abbrev space : At-loop → Space
-space l = space_from (begun l).args.config l.loop.tuples l.loop.table l.loop.count
-
-few : (l : At-loop) → l.loop.count ≤ capacity
-few l = formed-few (space l) l.loop.invariant.0.formed
-
-long : (l : At-loop) → length l.loop.tuples ≡ capacity
-long l = tidy-long (space l) l.loop.invariant.0.tidy (few l)
-
-counted : (l : At-loop) → held_line (space l) ≡ count_line l.loop.count
+counted : {s first : List ℕ} {at : ℕ} {whole out : List ℕ} {place here number : ℕ} {space : Space} → Left s first at whole out place here number space
+    → held_line space ≡ count_line space.count
 unfolding held_line
-counted l = ap count_line (simp length-take (omega (arith, few l, long l)))
+counted left = ap count_line (simp length-take (omega (arith, few left, long left)))
 
--- from what was read back to the turn
-abbrev turn : After-call → At-loop
-turn k = k.before.before.before
+-- a tuple that is looked at is one of them
+looked-at : {s first : List ℕ} {at : ℕ} {whole out : List ℕ} {place here number : ℕ} {space : Space} → Left s first at whole out place here number space
+    → (verdict : Verdict) (code seen i : ℕ) → seen ≡ sought_of verdict code space.count → i < seen → i < capacity
+looked-at {space = space} left verdict code seen i said below = omega (arith, said, below, sought-few verdict code space.count, few left)
 
-abbrev read : After-entry → After-call
-read e = e.before.before.before.before.before.before
-
-abbrev next : After-entry → After-next
-next e = e.before.before.before.before
-
--- the call that was read has its places, and no fault
-sound-read : (e : After-entry) → let k = read e in let l = turn k in
-    Read (begun l).args.script.now l.loop.cursor.at (next e).next.given.0.0.at k.call.result.call
-sound-read e =
-    let k = read e in
-    let l = turn k in
-    let s = begun l in
-    call-read s.args.script.now l.loop.cursor.at k.call.result (next e).next.given.0.0 s.pre.0 k.call.ensures (next e).next.given.1
-
--- ---- the first refusal
-
-abbrev called : Joined2 → After-entry
-called a = a.before.before
-
-faultless : (a : Joined2) → let k = read (called a) in let l = turn k in let call = k.call.result.call in
-    first_refusal (begun l).args.config call (verdict (space l) call) ≡ behind_stranger (begun l).args.config call (verdict (space l) call)
+-- a call with no fault is asked for a stranger first
+faultless : (config : Config) (call : Call) (next : Verdict) → call_fault call ≡ Absent → first_refusal config call next ≡ behind_stranger config call next
 unfolding first_refusal
-faultless a =
-    let k = read (called a) in
-    let l = turn k in
-    let call = k.call.result.call in
-    ap (λ (fault : Fault). behind_fault fault (behind_stranger (begun l).args.config call (verdict (space l) call))) (sound-read (called a)).sound
+faultless config call next sound = ap (λ (fault : Fault). behind_fault fault (behind_stranger config call next)) sound
 
-first_said : (a : Joined2) → let k = read (called a) in let call = k.call.result.call in
-    a.if2.first ≡ first_refusal (begun (turn k)).args.config call (verdict (space (turn k)) call)
-first_said a =
-    let h = a.before in
-    let k = read (called a) in
-    let l = turn k in
-    let call = k.call.result.call in
-    let config = (begun l).args.config in
-    ⊎_elim
-    (λ f. f.2 ∙ f.1.ensures ∙ ap (behind_stranger config call) (asked-list (space l) call (sym h.asks-tuples.ensures ∙ f.0.taken)) ∙ sym (faultless a))
-    (λ f. f.3 ∙ f.2.ensures ∙ ap (behind_stranger config call) (lent_found (space l) call (formed-bounded (space l) l.loop.inv.0.formed) (sym h.asks-tuples.ensures ∙ f.0.left)) ∙ sym (faultless a))
-    a.if2.branch
+-- the record at the cursor, with what is done then
+abbrev stepped : ReadCall → Effect → Stepped
+stepped read does = record { next = read.next; call = read.call; effect = does }
+
+rule : (s : List ℕ) (at : ℕ) (space : Space) (read : ReadCall) (does : Effect) → Bytes s → at < length s → well_formed space ≡ true → read ≡ call_at s at
+    → does ≡ effect_of space read.call read.next → StepRule s at space (stepped read does)
+rule s at space read does bytes inside formed said made =
+    subst (StepRule s at space) (sym (read_step s at space read does said made)) (step-rules s at space bytes inside formed)
 
 -- ---- the search
 
-abbrev asked : At-tuples → Joined2
-asked t = t.before.before.before
+inside : (c : In-tuples) → c.tuples.i < capacity
+inside c = looked-at c.loop-cursor.invariant.0 c.if-asks_tuples.first c.call-read.result.call.code c.sought-held.result c.tuples.i c.sought-held.ensures c.tuples-test.true
 
-abbrev owner : At-tuples → At-loop
-owner t = turn (read (called (asked t)))
+-- ---- a record that was read, once its line is printed
 
-abbrev template : At-tuples → Tuple
-template t = (read (called (asked t))).call.result.call.template
+abbrev Printed : Type 0
+Printed = After-slice_known-in-loop-cursor-1
 
--- how many tuples are looked at
-abbrev seen : At-tuples → ℕ
-seen t = t.before.before.sought.result
+abbrev space : Printed → Space
+space k = space_from k.args.config k.loop-cursor.tuples k.loop-cursor.table k.loop-cursor.count
 
-seen_few : (t : At-tuples) → seen t ≤ (owner t).loop.count
-seen_few t = omega (arith, t.before.before.sought.ensures, sought-few (asked t).if2.first (read (called (asked t))).call.result.call.code (owner t).loop.count)
+-- the call that was read has its places, and no fault
+sound-read : (k : Printed) → Read k.args.script.now k.loop-cursor.cursor.at k.in-At.behind.at k.call-read.result.call
+sound-read k = call-read k.args.script.now k.loop-cursor.cursor.at k.call-read.result k.in-At.behind k.requires.bytes k.call-read.ensures k.in-At.is
 
--- the present tuple
-abbrev present : In-tuples → Tuple
-present c = get_or (owner c.before).loop.tuples c.before.tuples.i no-tuple
-
-inside : (c : In-tuples) → c.before.tuples.i < capacity
-inside c = omega (arith, c.tuples-test.true, seen_few c.before, few (owner c.before))
-
-asked-six : (t : At-tuples) → length (template t).fields ≡ places
-asked-six t = (sound-read (called (asked t))).typed.template
-
-present-six : (c : In-tuples) → length (present c).fields ≡ places
-present-six c = (owner c.before).loop.invariant.1 c.before.tuples.i (inside c)
-
--- one that does not match is passed
-passed_on : (c : In-tuples) → let t = c.before in
-    matches (template t) (present c) ≡ false → Passed (seen t) (owner t).loop.tuples (template t) (t.tuples.i + 1)
-passed_on c e =
-    let t = c.before in
-    passed-more (seen t) (owner t).loop.tuples (template t) t.tuples.i no-tuple t.tuples.invariant.2 c.tuples-test.true (omega (arith, inside c, long (owner t))) e
-
--- in a turn over the fields
-abbrev here : At-loop2 → In-tuples
-here m = m.before.before.before
-
-in-places : (c : In-loop2) → c.before.loop2.j < min (template (here c.before).before).count places
-in-places c = omega (arith, c.loop2-test.true, (here c.before).before.before.least.ensures)
+first_said : (k : Printed) → k.if-asks_tuples.first ≡ first_refusal k.args.config k.call-read.result.call (verdict (space k) k.call-read.result.call)
+first_said k =
+    let call = k.call-read.result.call in
+    let config = k.args.config in
+    let free = faultless config call (verdict (space k) call) (sound-read k).sound in
+    elim k.if-asks_tuples.branch [
+      then-asks_tuples w ↦ w.first-is ∙ w.list_refusal-first.ensures ∙ ap (behind_stranger config call) (asked-list (space k) call (sym k.asks_tuples.ensures ∙ w.if-asks_tuples.true)) ∙ sym free
+      | else-asks_tuples w ↦
+          w.first-is
+          ∙ w.lent_refusal-first.ensures
+          ∙ ap (behind_stranger config call) (lent_found (space k) call (formed-bounded (space k) k.loop-cursor.invariant.0.formed) (sym k.asks_tuples.ensures ∙ w.if-asks_tuples.false))
+          ∙ sym free
+    ]
 
 -- what the search left
-met : (c : Left-tuples) → let t = c.before in Met (seen t) (owner t).loop.tuples (template t) c.tuples-test.spot
-met c =
-    let t = c.before in
-    let tuples = (owner t).loop.tuples in
-    ⊎_elim
-    (λ f. subst (Met (seen t) tuples (template t)) (sym (f.1 ∙ t.tuples.invariant.1)) (met-nowhere (seen t) tuples (template t) t.tuples.i t.tuples.invariant.2 (omega (arith, f.0.left))))
-    (λ f. let u : In-tuples = record { before = t; tuples-test = f.0 } in
-    subst (Met (seen t) tuples (template t)) (sym f.5)
-    (met-here (seen t) tuples (template t) t.tuples.i t.tuples.invariant.2 no-tuple f.0.taken (omega (arith, inside u, long (owner t))) (inside u)
-    (equal (template t) (present u) (asked-six t) (present-six u) f.3.j f.3.inv.1 (omega (arith, f.4.left, t.before.least.ensures)) f.2.left)))
-    c.tuples-test.branch
+met : (k : Printed) → Met k.sought-held.result k.loop-cursor.tuples k.call-read.result.call.template k.tuples-test.spot
+met k =
+    let seen = k.sought-held.result in
+    let tuples = k.loop-cursor.tuples in
+    let template = k.call-read.result.call.template in
+    let i = k.tuples.i in
+    elim k.tuples-test.branch [
+      else-tuples-test w ↦ subst (Met seen tuples template) (sym (w.spot-is ∙ k.tuples.invariant.1)) (met-nowhere seen tuples template i k.tuples.invariant.2 (omega (arith, w.tuples-test.false)))
+      | then-tuples-test+else-tuple-wanted+else-loop-j-test w ↦
+          let below = looked-at k.loop-cursor.invariant.0 k.if-asks_tuples.first k.call-read.result.call.code seen i k.sought-held.ensures w.tuples-test.true in
+          subst (Met seen tuples template) (sym w.spot-is)
+          (met-here seen tuples template i k.tuples.invariant.2 no-tuple w.tuples-test.true (omega (arith, below, long k.loop-cursor.invariant.0)) below
+          (equal template (get_or tuples i no-tuple) (sound-read k).typed.template (k.loop-cursor.invariant.1 i below) w.loop-j.j w.loop-j.invariant.1
+          (omega (arith, w.loop-j-test.false, k.least-places.ensures)) w.if-tuple-wanted.false))
+    ]
 
--- ---- what the call does
+-- what the call does
+done : (k : Printed) → k.effect_by-effect.result ≡ judged (space k) k.call-read.result.call
+done k =
+    let tuples = k.loop-cursor.tuples in
+    let call = k.call-read.result.call in
+    let spot = k.tuples-test.spot in
+    k.effect_by-effect.ensures
+    ∙ done-judged (space k) k.loop-cursor.invariant.0.formed (long k.loop-cursor.invariant.0) call _ spot
+    (λ below. let same : k.least-last.result ≡ spot = omega (arith, k.least-last.ensures, below) in ap (λ (i : ℕ). get_or tuples i no-tuple) same)
+    k.if-asks_tuples.first (first_said k) (subst (λ (n : ℕ). Met n tuples call.template spot) k.sought-held.ensures (met k))
 
-abbrev searched : After-effect-by → Left-tuples
-searched c = c.before.before.before
+turned : (k : Printed) → StepRule k.args.script.now k.loop-cursor.cursor.at (space k) (stepped k.call-read.result k.effect_by-effect.result)
+turned k =
+    rule k.args.script.now k.loop-cursor.cursor.at (space k) k.call-read.result k.effect_by-effect.result k.requires.bytes k.loop-cursor-test.true
+    k.loop-cursor.invariant.0.formed k.call-read.ensures
+    (done k ∙ sym (ap (effect_of (space k) k.call-read.result.call) k.in-At.is))
 
-done : (c : After-effect-by) → let k = read (called (asked (searched c).before)) in c.effect-by.result ≡ judged (space (turn k)) k.call.result.call
-done c =
-    let m = searched c in
-    let t = m.before in
-    let l = owner t in
-    let tuples = l.loop.tuples in
-    let call = (read (called (asked t))).call.result.call in
-    let spot = m.tuples-test.spot in
-    let at = c.before.before.least2 in
-    c.effect-by.ensures
-    ∙ done-judged (space l) l.loop.inv.0.formed (long l) call _ spot
-    (λ few. let same : at.result ≡ spot = omega (arith, at.ensures, few) in ap (λ (i : ℕ). get_or tuples i no-tuple) same)
-    (asked t).if2.first (first_said (asked t)) (subst (λ (n : ℕ). Met n tuples (template t) spot) t.before.before.sought.ensures (met m))
+less : (k : Printed) → let s = k.args.script.now in length s - k.in-At.behind.at < length s - k.loop-cursor.cursor.at
+less k = omega (arith, k.loop-cursor-test.true, ((turned k).goes k.in-At.behind k.in-At.is).further)
 
--- the record at the cursor, with what is done then
-abbrev stepped : After-call → Effect → Stepped
-stepped k does = let r = k.call.result in record { next = r.next; call = r.call; effect = does }
-
-rule : (k : After-call) (does : Effect) → let l = turn k in
-    does ≡ effect_of (space l) k.call.result.call k.call.result.next
-    → StepRule (begun l).args.script.now l.loop.cursor.at (space l) (stepped k does)
-rule k does made =
-    let l = turn k in
-    let g = begun l in
-    let s = g.args.script.now in
-    subst (StepRule s l.loop.cursor.at (space l)) (sym (read_step s l.loop.cursor.at (space l) k.call.result does k.call.ensures made))
-    (step-rules s l.loop.cursor.at (space l) g.pre.0 k.before.if1.true l.loop.inv.0.formed)
-
--- a record that can't be read: its line and the last one are left
-stop-lines : (c : After-enum-told) → let k = c.before.before in let l = turn k in
-    lines_on l.loop.number (space l) (records_at (begun l).args.script.now l.loop.cursor.at)
-    ≡ unread_of l.loop.number k.call.result.next ++ count_line l.loop.count
-stop-lines c =
-    let k = c.before.before in
-    let l = turn k in
-    at-stop (begun l).args.script.now l.loop.cursor.at l.loop.number (space l) (stepped k _) (rule k _ refl) _ c.enum_told.given.1
-    ∙ ap (λ (t : List ℕ). unread_of l.loop.number k.call.result.next ++ t) (counted l)
-
--- the end of the script: the last line is left
-end-lines : (c : Else1) → let l = c.before.before in
-    lines_on l.loop.number (space l) (records_at (begun l).args.script.now l.loop.cursor.at) ≡ count_line l.loop.count
-end-lines c = let l = c.before.before in at-end (begun l).args.script.now l.loop.cursor.at l.loop.number (space l) c.if1.false ∙ counted l
-
--- a record that was read, once its line is printed
-abbrev judged-there : After-slice-known4 → After-effect-by
-judged-there c = c.before.before.before.before.before
-
-abbrev made : After-slice-known4 → After-entry
-made c = called (asked (searched (judged-there c)).before)
-
-abbrev home : After-slice-known4 → At-loop
-home c = turn (read (made c))
-
-turned : (c : After-slice-known4) → let k = read (made c) in let l = turn k in
-    StepRule (begun l).args.script.now l.loop.cursor.at (space l) (stepped k (judged-there c).effect-by.result)
-turned c =
-    let k = read (made c) in
-    rule k _ (done (judged-there c) ∙ sym (ap (effect_of (space (turn k)) k.call.result.call) (next (made c)).next.given.1))
-
-less : (c : After-slice-known4) → let l = home c in let s = (begun l).args.script.now in
-    length s - (next (made c)).next.given.0.0.at < length s - l.loop.cursor.at
-less c =
-    let n = next (made c) in
-    omega (arith, (read (made c)).before.if1.true, ((turned c).goes n.next.given.0.0 n.next.given.1).further)
+-- what a change comes to
+abbrev carry : Printed → Change → Space
+carry k change = carried_out (space k) k.call-read.result.call.entry change
 
 -- the lines behind it are left, on the space that the change makes
-again : (c : After-slice-known4) (tuples : List Tuple) (table : List ℕ) (count : ℕ) → let l = home c in let g = begun l in
-    space_from g.args.config tuples table count ≡ carried_out (space l) (read (made c)).call.result.call.entry (judged-there c).effect-by.result.change
+again : (k : Printed) (tuples : List Tuple) (table : List ℕ) (count : ℕ) → let a = k.args in
+    space_from a.config tuples table count ≡ carry k k.effect_by-effect.result.change
     → Sixes tuples
-    → Left g.args.script.now g.args.out.now g.args.at (lines_on 1 (fresh_of g.args.config).space (records_at g.args.script.now g.args.start.at))
-    c.before.before.put-line.new.0 c.before.before.put-line.result (next (made c)).next.given.0.0.at (l.loop.number + 1) (space_from g.args.config tuples table count)
+    → Left a.script.now a.out.now a.at (lines_on 1 (fresh_of a.config).space (records_at a.script.now a.start.at))
+    k.put_line-place.new.out k.put_line-place.result k.in-At.behind.at (k.loop-cursor.number + 1) (space_from a.config tuples table count)
     × Sixes tuples
-again c tuples table count carried sixes =
-    let k = read (made c) in
-    let l = turn k in
-    let n = next (made c) in (
-      left-more (begun l).args.script.now l.loop.cursor.at l.loop.number (space l) (stepped k (judged-there c).effect-by.result) (turned c)
-          n.next.given.0.0 n.next.given.1 (space_from (begun l).args.config tuples table count) carried l.loop.inv.0 c.before.before.put-line.ensures,
-      sixes,
-    )
-
--- what a change that was told comes to
-abbrev carry : After-slice-known4 → Change → Space
-carry c change = carried_out (space (home c)) (read (made c)).call.result.call.entry change
-
--- the places of a removal
-abbrev removing : At-loop3 → Else6
-removing l = l.before
-
-abbrev gone : Else6 → ℕ
-gone c = c.before.before.change.given.0.0
-
-abbrev told : Else6 → After-slice-known4
-told c = c.before.before.before.before
+again k tuples table count carried sixes = (
+  left-more k.args.script.now k.loop-cursor.cursor.at k.loop-cursor.number (space k) (stepped k.call-read.result k.effect_by-effect.result) (turned k)
+      k.in-At.behind k.in-At.is (space_from k.args.config tuples table count) carried k.loop-cursor.invariant.0 (k.put_line-place.ensures.value, k.put_line-place.ensures.out_after),
+  sixes,
+)
 
 -- ---- the needs
 
@@ -325,66 +175,66 @@ loop-cursor-init c =
       sixes-blank c.blank-tuples.result c.blank-tuples.ensures,
     )
 
-pub shape_of-out-in_default : goal.shape_of-out-in_default
-shape_of-out-in_default c =
-    let l = turn (goal.at.shape_of-out-in_default c).After-call-read in
-    wrote-length c.put_unread-end.new.out c.put_unread-end.result (count_line l.loop.count) (c.put_count.ensures.value, c.put_count.ensures.out_after)
-    ∙ wrote-length l.loop.out l.loop.place (unread_of l.loop.number c.call-read.result.next) (c.put_unread-end.ensures.value, c.put_unread-end.ensures.out_after)
-    ∙ l.loop.inv.0.long
-
 pub returns-in_default : goal.returns-in_default
 returns-in_default c =
-    let l = turn (goal.at.returns-in_default c).After-call-read in
-    let left = l.loop.inv.0 in
-    let both = finished left (stop-lines (goal.at.returns-in_default c).In_default)
-    (wrote_then l.loop.out l.loop.place (omega (arith, left.long, left.small)) (unread_of l.loop.number c.call-read.result.next) (count_line l.loop.count) (c.put_unread-end.ensures.value, c.put_unread-end.ensures.out_after) (c.put_count.ensures.value, c.put_count.ensures.out_after)) in record { value = both.0; out_after = both.1 }
+    let s = c.args.script.now in
+    let here = c.loop-cursor.cursor.at in
+    let number = c.loop-cursor.number in
+    let left = c.loop-cursor.invariant.0 in
+    let owned = space_from c.args.config c.loop-cursor.tuples c.loop-cursor.table c.loop-cursor.count in
+    let read = c.call-read.result in
+    let line = unread_of number read.next in
+    let step = rule s here owned read (effect_of owned read.call read.next) c.requires.bytes c.loop-cursor-test.true left.formed c.call-read.ensures refl in
+    let stop = at-stop s here number owned (stepped read (effect_of owned read.call read.next)) step c.in_default.field-0 c.in_default.is ∙ ap (λ (t : List ℕ). line ++ t) (counted left) in
+    let both = finished left stop
+        (wrote_then c.loop-cursor.out c.loop-cursor.place (omega (arith, left.long, left.small)) line (count_line c.loop-cursor.count)
+        (c.put_unread-end.ensures.value, c.put_unread-end.ensures.out_after) (c.put_count.ensures.value, c.put_count.ensures.out_after)) in
+    record { value = both.0; out_after = both.1 }
 
 pub tuples-init : goal.tuples-init
 unfolding oldest_of
 tuples-init c = (omega arith, refl, refl)
 
 pub offset_bounds-tuples-i : goal.offset_bounds-tuples-i
-offset_bounds-tuples-i c = omega (arith, inside c)
+offset_bounds-tuples-i c = omega (arith, inside (goal.at.offset_bounds-tuples-i c).In-tuples)
 
 pub bounds-tuples-i : goal.bounds-tuples-i
-bounds-tuples-i c = inside c
-
-pub overflow_add-i : goal.overflow_add-i
-overflow_add-i c = omega (arith, inside (goal.at.overflow_add-i c).In-tuples)
+bounds-tuples-i c = inside (goal.at.bounds-tuples-i c).In-tuples
 
 pub tuples-preserved-then-tuple-wanted : goal.tuples-preserved-then-tuple-wanted
 tuples-preserved-then-tuple-wanted c =
-    (omega (arith, c.tuples-test.true), c.tuples.invariant.1, passed_on (goal.at.tuples-preserved-then-tuple-wanted c).In-tuples (uncounted (template (goal.at.tuples-preserved-then-tuple-wanted c).At-tuples) (present (goal.at.tuples-preserved-then-tuple-wanted c).In-tuples) c.if-tuple-wanted.true))
+    let tuples = c.loop-cursor.tuples in
+    let template = c.call-read.result.call.template in
+    let below = inside (goal.at.tuples-preserved-then-tuple-wanted c).In-tuples in (
+      omega (arith, c.tuples-test.true),
+      c.tuples.invariant.1,
+      passed-more c.sought-held.result tuples template c.tuples.i no-tuple c.tuples.invariant.2 c.tuples-test.true (omega (arith, below, long c.loop-cursor.invariant.0))
+          (uncounted template (get_or tuples c.tuples.i no-tuple) c.if-tuple-wanted.true),
+    )
 
 pub tuples-preserved : goal.tuples-preserved
 tuples-preserved c =
-    let u = here (goal.at.tuples-preserved c).At-loop-j in
-    let t = u.before in (
-      omega (arith, u.tuples-test.taken),
-      t.tuples.inv.1,
-      passed_on u
-          (unequal (template t) (present u) (asked-six t) (present-six u) c.loop-j.j c.loop-j.invariant.1 (in-places (goal.at.tuples-preserved c).In-loop-j) (sym c.field_matches.ensures ∙ not-true _ c.if-not-field_matches.true-raw) c.if-tuple-wanted.false),
+    let tuples = c.loop-cursor.tuples in
+    let template = c.call-read.result.call.template in
+    let below = inside (goal.at.tuples-preserved c).In-tuples in
+    let read = call-read c.args.script.now c.loop-cursor.cursor.at c.call-read.result c.in-At.behind c.requires.bytes c.call-read.ensures c.in-At.is in (
+      omega (arith, c.tuples-test.true),
+      c.tuples.invariant.1,
+      passed-more c.sought-held.result tuples template c.tuples.i no-tuple c.tuples.invariant.2 c.tuples-test.true (omega (arith, below, long c.loop-cursor.invariant.0))
+          (unequal template (get_or tuples c.tuples.i no-tuple) read.typed.template (c.loop-cursor.invariant.1 c.tuples.i below) c.loop-j.j c.loop-j.invariant.1
+          (omega (arith, c.loop-j-test.true, c.least-places.ensures)) (sym c.field_matches.ensures ∙ c.if-not-field_matches.true) c.if-tuple-wanted.false),
     )
 
 pub loop-j-preserved : goal.loop-j-preserved
 loop-j-preserved c =
-    let u = here (goal.at.loop-j-preserved c).At-loop-j in
-    let t = u.before in (
+    let tuples = c.loop-cursor.tuples in
+    let template = c.call-read.result.call.template in
+    let below = inside (goal.at.loop-j-preserved c).In-tuples in
+    let read = call-read c.args.script.now c.loop-cursor.cursor.at c.call-read.result c.in-At.behind c.requires.bytes c.call-read.ensures c.in-At.is in (
       omega (arith, c.loop-j-test.true),
-      matching.left-more (template t) (present u) (asked-six t) (present-six u) c.loop-j.j c.loop-j.invariant.1 (in-places (goal.at.loop-j-preserved c).In-loop-j) (sym c.field_matches.ensures ∙ not-false _ c.if-not-field_matches.false-raw),
+      matching.left-more template (get_or tuples c.tuples.i no-tuple) read.typed.template (c.loop-cursor.invariant.1 c.tuples.i below) c.loop-j.j c.loop-j.invariant.1
+          (omega (arith, c.loop-j-test.true, c.least-places.ensures)) (sym c.field_matches.ensures ∙ c.if-not-field_matches.false),
     )
-
-pub offset_bounds-tuples-last : goal.offset_bounds-tuples-last
-offset_bounds-tuples-last c = omega (arith, c.least-last.ensures)
-
-pub bounds-tuples-last : goal.bounds-tuples-last
-bounds-tuples-last c = omega (arith, c.least-last.ensures)
-
-pub overflow_add-number : goal.overflow_add-number
-overflow_add-number c =
-    let k = read (made c) in
-    let l = turn k in
-    omega (arith, l.loop.inv.0.numbered, k.before.if1.taken, (begun l).good)
 
 pub loop-cursor-smaller-in-Keep : goal.loop-cursor-smaller-in-Keep
 loop-cursor-smaller-in-Keep c = less (goal.at.loop-cursor-smaller-in-Keep c).After-slice_known-in-loop-cursor-1
@@ -392,114 +242,101 @@ loop-cursor-smaller-in-Keep c = less (goal.at.loop-cursor-smaller-in-Keep c).Aft
 pub loop-cursor-preserved-in-Keep : goal.loop-cursor-preserved-in-Keep
 unfolding carried_out
 loop-cursor-preserved-in-Keep c =
-    again (goal.at.loop-cursor-preserved-in-Keep c).After-slice_known-in-loop-cursor-1 _ _ _ (sym (ap (carry (goal.at.loop-cursor-preserved-in-Keep c).After-slice_known-in-loop-cursor-1) c.in-Keep.is)) (home (goal.at.loop-cursor-preserved-in-Keep c).After-slice_known-in-loop-cursor-1).loop.invariant.1
+    let k = (goal.at.loop-cursor-preserved-in-Keep c).After-slice_known-in-loop-cursor-1 in
+    again k c.loop-cursor.tuples c.loop-cursor.table c.loop-cursor.count (sym (ap (carry k) c.in-Keep.is)) c.loop-cursor.invariant.1
 
 pub loop-cursor-smaller-then-count-ge-TUPLES : goal.loop-cursor-smaller-then-count-ge-TUPLES
 loop-cursor-smaller-then-count-ge-TUPLES c = less (goal.at.loop-cursor-smaller-then-count-ge-TUPLES c).After-slice_known-in-loop-cursor-1
 
 pub loop-cursor-preserved-then-count-ge-TUPLES : goal.loop-cursor-preserved-then-count-ge-TUPLES
 loop-cursor-preserved-then-count-ge-TUPLES c =
-    let l = home (goal.at.loop-cursor-preserved-then-count-ge-TUPLES c).After-slice_known-in-loop-cursor-1 in
-    again (goal.at.loop-cursor-preserved-then-count-ge-TUPLES c).After-slice_known-in-loop-cursor-1 _ _ _ (append-none _ _ _ _ _ c.if-count-ge-TUPLES.true ∙ sym (ap (carry (goal.at.loop-cursor-preserved-then-count-ge-TUPLES c).After-slice_known-in-loop-cursor-1) c.in-Append.is)) l.loop.inv.1
-
-pub offset_bounds-tuples-count : goal.offset_bounds-tuples-count
-offset_bounds-tuples-count c = omega (arith, c.if-count-ge-TUPLES.false)
-
-pub bounds-tuples-count : goal.bounds-tuples-count
-bounds-tuples-count c = omega (arith, c.if-count-ge-TUPLES.false)
-
-pub overflow_add-count : goal.overflow_add-count
-overflow_add-count c = omega (arith, c.if-count-ge-TUPLES.false)
+    let k = (goal.at.loop-cursor-preserved-then-count-ge-TUPLES c).After-slice_known-in-loop-cursor-1 in
+    again k c.loop-cursor.tuples c.loop-cursor.table c.loop-cursor.count
+    (append-none c.args.config c.loop-cursor.tuples c.loop-cursor.table c.loop-cursor.count c.call-read.result.call.entry c.if-count-ge-TUPLES.true ∙ sym (ap (carry k) c.in-Append.is))
+    c.loop-cursor.invariant.1
 
 pub loop-cursor-smaller-in-Append : goal.loop-cursor-smaller-in-Append
 loop-cursor-smaller-in-Append c = less (goal.at.loop-cursor-smaller-in-Append c).After-slice_known-in-loop-cursor-1
 
 pub loop-cursor-preserved-in-Append : goal.loop-cursor-preserved-in-Append
 loop-cursor-preserved-in-Append c =
-    let l = home (goal.at.loop-cursor-preserved-in-Append c).After-slice_known-in-loop-cursor-1 in
-    let entry = (read (made (goal.at.loop-cursor-preserved-in-Append c).After-slice_known-in-loop-cursor-1)).call.result.call.entry in
-    again (goal.at.loop-cursor-preserved-in-Append c).After-slice_known-in-loop-cursor-1 _ _ _
-    (append-there (begun l).args.config l.loop.tuples l.loop.table l.loop.count entry c.if-count-ge-TUPLES.false _ c.enter.ensures ∙ sym (ap (carry (goal.at.loop-cursor-preserved-in-Append c).After-slice_known-in-loop-cursor-1) c.in-Append.is))
-    (sixes-set l.loop.tuples l.loop.count entry (long l) c.if-count-ge-TUPLES.false (sound-read (made (goal.at.loop-cursor-preserved-in-Append c).After-slice_known-in-loop-cursor-1)).typed.entry l.loop.inv.1)
+    let k = (goal.at.loop-cursor-preserved-in-Append c).After-slice_known-in-loop-cursor-1 in
+    let entry = c.call-read.result.call.entry in
+    again k _ _ _
+    (append-there c.args.config c.loop-cursor.tuples c.loop-cursor.table c.loop-cursor.count entry c.if-count-ge-TUPLES.false _ c.enter.ensures ∙ sym (ap (carry k) c.in-Append.is))
+    (sixes-set c.loop-cursor.tuples c.loop-cursor.count entry (long c.loop-cursor.invariant.0) c.if-count-ge-TUPLES.false (sound-read k).typed.entry c.loop-cursor.invariant.1)
 
 pub loop-cursor-smaller-then-count-gone : goal.loop-cursor-smaller-then-count-gone
 loop-cursor-smaller-then-count-gone c = less (goal.at.loop-cursor-smaller-then-count-gone c).After-slice_known-in-loop-cursor-1
 
 pub loop-cursor-preserved-then-count-gone : goal.loop-cursor-preserved-then-count-gone
 loop-cursor-preserved-then-count-gone c =
-    let l = home (goal.at.loop-cursor-preserved-then-count-gone c).After-slice_known-in-loop-cursor-1 in
-    again (goal.at.loop-cursor-preserved-then-count-gone c).After-slice_known-in-loop-cursor-1 _ _ _ (remove-none _ _ _ _ _ c.in-Remove.gone c.if-count-gone.true ∙ sym (ap (carry (goal.at.loop-cursor-preserved-then-count-gone c).After-slice_known-in-loop-cursor-1) c.in-Remove.is)) l.loop.inv.1
-
-pub overflow_add-k : goal.overflow_add-k
-overflow_add-k c = omega (arith, c.if-count-gone.false, few (home (told c)))
+    let k = (goal.at.loop-cursor-preserved-then-count-gone c).After-slice_known-in-loop-cursor-1 in
+    again k c.loop-cursor.tuples c.loop-cursor.table c.loop-cursor.count
+    (remove-none c.args.config c.loop-cursor.tuples c.loop-cursor.table c.loop-cursor.count c.call-read.result.call.entry c.in-Remove.gone c.if-count-gone.true ∙ sym (ap (carry k) c.in-Remove.is))
+    c.loop-cursor.invariant.1
 
 pub loop-k-init : goal.loop-k-init
 loop-k-init c =
-    let l = home (told c) in (moved_none (space l) (few l) (long l) (gone c) c.if-count-gone.false, l.loop.inv.1)
+    let left = c.loop-cursor.invariant.0 in
+    (moved_none (space_from c.args.config c.loop-cursor.tuples c.loop-cursor.table c.loop-cursor.count) (few left) (long left) c.in-Remove.gone c.if-count-gone.false, c.loop-cursor.invariant.1)
 
 pub offset_bounds-tuples-k : goal.offset_bounds-tuples-k
-offset_bounds-tuples-k c = omega (arith, c.loop-k-test.true, few (home (told (goal.at.offset_bounds-tuples-k c).Else-count-gone)))
+offset_bounds-tuples-k c = omega (arith, c.loop-k-test.true, few c.loop-cursor.invariant.0)
 
 pub bounds-tuples-k : goal.bounds-tuples-k
-bounds-tuples-k c = omega (arith, c.loop-k-test.true, few (home (told (goal.at.bounds-tuples-k c).Else-count-gone)))
-
-pub overflow_sub-tuples : goal.overflow_sub-tuples
-overflow_sub-tuples c = omega (arith, c.loop-k.invariant.0.behind)
+bounds-tuples-k c = omega (arith, c.loop-k-test.true, few c.loop-cursor.invariant.0)
 
 pub offset_bounds-tuples-k-in-loop-k : goal.offset_bounds-tuples-k-in-loop-k
-offset_bounds-tuples-k-in-loop-k c = omega (arith, c.loop-k-test.true, few (home (told (goal.at.offset_bounds-tuples-k-in-loop-k c).Else-count-gone)))
+offset_bounds-tuples-k-in-loop-k c = omega (arith, c.loop-k-test.true, few c.loop-cursor.invariant.0)
 
 pub bounds-tuples-k-in-loop-k : goal.bounds-tuples-k-in-loop-k
-bounds-tuples-k-in-loop-k c = omega (arith, c.loop-k-test.true, few (home (told (goal.at.bounds-tuples-k-in-loop-k c).Else-count-gone)))
-
-pub overflow_add-k-in-loop-k : goal.overflow_add-k-in-loop-k
-overflow_add-k-in-loop-k c = omega (arith, c.loop-k-test.true, few (home (told (goal.at.overflow_add-k-in-loop-k c).Else-count-gone)))
-
-pub loop-k-smaller : goal.loop-k-smaller
-loop-k-smaller c = omega (arith, c.loop-k-test.true)
+bounds-tuples-k-in-loop-k c = omega (arith, c.loop-k-test.true, few c.loop-cursor.invariant.0)
 
 pub loop-k-preserved : goal.loop-k-preserved
 loop-k-preserved c =
-    let l = home (told (goal.at.loop-k-preserved c).Else-count-gone) in
+    let left = c.loop-cursor.invariant.0 in
+    let config = c.args.config in
+    let table = c.loop-cursor.table in
+    let count = c.loop-cursor.count in
     let k = c.loop-k.k in
-    let below : k < capacity = omega (arith, c.loop-k-test.true, few l) in
+    let below : k < capacity = omega (arith, c.loop-k-test.true, few left) in
     let moved = c.loop-k.invariant.0 in (
-      moved_more (space l) (few l) (long l) (gone (goal.at.loop-k-preserved c).Else-count-gone) (space_from (begun l).args.config c.loop-k.tuples l.loop.table l.loop.count) k moved c.loop-k-test.true _,
+      moved_more (space_from config c.loop-cursor.tuples table count) (few left) (long left) c.in-Remove.gone (space_from config c.loop-k.tuples table count) k moved c.loop-k-test.true _,
       sixes-set c.loop-k.tuples (k - 1) (get_or c.loop-k.tuples k no-tuple) moved.long (omega arith) (c.loop-k.invariant.1 k below) c.loop-k.invariant.1,
     )
 
-pub overflow_sub-tuples-in-Remove : goal.overflow_sub-tuples-in-Remove
-overflow_sub-tuples-in-Remove c = omega (arith, c.if-count-gone.false)
-
 pub offset_bounds-tuples-count-in-Remove : goal.offset_bounds-tuples-count-in-Remove
-offset_bounds-tuples-count-in-Remove c = omega (arith, few (home (told (goal.at.offset_bounds-tuples-count-in-Remove c).Else-count-gone)))
+offset_bounds-tuples-count-in-Remove c = omega (arith, few c.loop-cursor.invariant.0)
 
 pub bounds-tuples-count-in-Remove : goal.bounds-tuples-count-in-Remove
-bounds-tuples-count-in-Remove c = omega (arith, c.if-count-gone.false, few (home (told (goal.at.bounds-tuples-count-in-Remove c).Else-count-gone)))
-
-pub overflow_sub-count : goal.overflow_sub-count
-overflow_sub-count c = omega (arith, c.if-count-gone.false)
+bounds-tuples-count-in-Remove c = omega (arith, c.if-count-gone.false, few c.loop-cursor.invariant.0)
 
 pub loop-cursor-smaller : goal.loop-cursor-smaller
-loop-cursor-smaller c = less (told (goal.at.loop-cursor-smaller c).Else-count-gone)
+loop-cursor-smaller c = less (goal.at.loop-cursor-smaller c).After-slice_known-in-loop-cursor-1
 
 pub loop-cursor-preserved : goal.loop-cursor-preserved
 loop-cursor-preserved c =
-    let k = told (goal.at.loop-cursor-preserved c).Else-count-gone in
-    let l = home k in
+    let k = (goal.at.loop-cursor-preserved c).After-slice_known-in-loop-cursor-1 in
+    let left = c.loop-cursor.invariant.0 in
     let moved = c.loop-k.invariant.0 in
-    let config = (begun l).args.config in
-    let last : l.loop.count - 1 < capacity = omega (arith, c.if-count-gone.false, few l) in
+    let config = c.args.config in
+    let tuples = c.loop-cursor.tuples in
+    let table = c.loop-cursor.table in
+    let count = c.loop-cursor.count in
+    let gone = c.in-Remove.gone in
+    let last : count - 1 < capacity = omega (arith, c.if-count-gone.false, few left) in
     again k _ _ _
-    (remove-there config l.loop.tuples l.loop.table l.loop.count _ (gone (goal.at.loop-cursor-preserved c).Else-count-gone) c.if-count-gone.false (few l) _
-    (moved_all (space l) (few l) (long l) (gone (goal.at.loop-cursor-preserved c).Else-count-gone) (space_from config c.loop-k.tuples l.loop.table l.loop.count) c.loop-k.k moved c.loop-k-test.false c.blank.result c.blank.ensures)
+    (remove-there config tuples table count c.call-read.result.call.entry gone c.if-count-gone.false (few left) _
+    (moved_all (space_from config tuples table count) (few left) (long left) gone (space_from config c.loop-k.tuples table count) c.loop-k.k moved c.loop-k-test.false c.blank.result c.blank.ensures)
     ∙ sym (ap (carry k) c.in-Remove.is))
-    (sixes-set c.loop-k.tuples (l.loop.count - 1) c.blank.result moved.long last (ap (λ (t : Tuple). length t.fields) c.blank.ensures) c.loop-k.invariant.1)
-
-pub shape_of-out : goal.shape_of-out
-shape_of-out c =
-    wrote-length c.loop-cursor.out c.loop-cursor.place (count_line c.loop-cursor.count) (c.put_count-2.ensures.value, c.put_count-2.ensures.out_after) ∙ c.loop-cursor.invariant.0.long
+    (sixes-set c.loop-k.tuples (count - 1) c.blank.result moved.long last (ap (λ (t : Tuple). length t.fields) c.blank.ensures) c.loop-k.invariant.1)
 
 pub returns : goal.returns
 returns c =
-    let both = finished c.loop-cursor.invariant.0 (end-lines (goal.at.returns c).After-loop-cursor) (c.put_count-2.ensures.value, c.put_count-2.ensures.out_after) in record { value = both.0; out_after = both.1 }
+    let left = c.loop-cursor.invariant.0 in
+    let s = c.args.script.now in
+    let owned = space_from c.args.config c.loop-cursor.tuples c.loop-cursor.table c.loop-cursor.count in
+    let both = finished left (at-end s c.loop-cursor.cursor.at c.loop-cursor.number owned c.loop-cursor-test.false ∙ counted left)
+        (c.put_count-2.ensures.value, c.put_count-2.ensures.out_after) in
+    record { value = both.0; out_after = both.1 }

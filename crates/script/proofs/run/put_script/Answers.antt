@@ -12,52 +12,39 @@ use Rattle.script.proofs.RecordLaws.{bytes_of}
 use Rattle.script.proofs.RoomLaws.{text-room}
 use Rattle.script.proofs.ScriptLaws.{text-refused, text-stands, read-sound}
 use Rattle.space.specs.Spaces.{fresh_of}
-use Rattle.text.specs.Texts.{refused_line}
 use Rattle.text.proofs.PlaceLaws.{Wrote, wrote_then}
 use Rattle.varint.specs.Reading.{Bytes}
-use Rattle.script.proofs.run.put_script.Goals.{After-head-head, In-At-2, In-Refused-2, Start}
+use Rattle.script.proofs.run.put_script.Goals.{After-head-head}
 use Rattle.script.proofs.run.put_script.Goals as goal
 
-abbrev begun : After-head-head → Start
-begun h = h.before.before.before
-
 -- the script is bytes, so that its text ends before the largest place
-script-bytes : (h : After-head-head) → Bytes (begun h).args.script.now
-script-bytes h = bytes_of (begun h).args.script.now (λ i. omega (arith, h.shared_slice_known-1.given i))
+whole : (s out : List ℕ) → Bytes s → {t : List ℕ} {next : ℕ} {after : List ℕ} → text s ≡ t → Wrote out 0 t next after
+    → (next ≡ length (text s)) × (after ≡ sets out 0 (text s))
+whole s out bytes same wrote = (
+  omega (arith, ap length same, wrote.0, text-room s bytes),
+  wrote.1 ∙ ap (sets out 0) (sym same),
+)
 
-whole : (h : After-head-head) {t : List ℕ} {next : ℕ} {after : List ℕ} → let a = (begun h).args in
-    text a.script.now ≡ t → Wrote a.out.now 0 t next after → (next ≡ length (text a.script.now)) × (after ≡ sets a.out.now 0 (text a.script.now))
-whole h same wrote =
-    let a = (begun h).args in (
-      omega (arith, ap length same, wrote.0, text-room a.script.now (script-bytes h)),
-      wrote.1 ∙ ap (sets a.out.now 0) (sym same),
-    )
-
--- by what was read of its head
-abbrev headed : In-At-2 → After-head-head
-headed n = n.before.before.before
-
-stands : (n : In-At-2) → let h = headed n in let s = (begun h).args.script.now in let config = h.head.result.config in
-    text s ≡ config_line config ++ lines_on 1 (fresh_of config).space (records_at s n.in-At.start.at)
-stands n = let h = headed n in text-stands (begun h).args.script.now h.head.result h.head.ensures n.in-At.start n.in-At.is
-
-refuses : (n : In-Refused-2) → text (begun n.before.before.before).args.script.now ≡ refused_line n.in-Refused.refusal
-refuses n =
-    text-refused (begun n.before.before.before).args.script.now n.head-head.result n.head-head.ensures n.in-Refused.refusal n.in-Refused.is
+script-bytes : (h : After-head-head) → Bytes h.args.script.now
+script-bytes h = bytes_of h.args.script.now (λ i. omega (arith, h.shared_slice_known-1.given i))
 
 pub put_records-requires : goal.put_records-requires
 put_records-requires c =
-    let h = headed (goal.at.put_records-requires c).In-At-2 in
-    record { bytes = script-bytes h; config_value = read-sound (begun h).args.script.now h.head.result h.head.ensures c.in-At.start c.in-At.is }
+    record { bytes = script-bytes (goal.at.put_records-requires c).After-head-head; config_value = read-sound c.args.script.now c.head-head.result c.head-head.ensures c.in-At.start c.in-At.is }
 
 pub returns-in-At : goal.returns-in-At
 returns-in-At c =
-    let h = headed (goal.at.returns-in-At c).In-At-2 in
-    let s = begun h in
-    let config = h.head.result.config in
-    let both = whole h (stands (goal.at.returns-in-At c).In-At-2)
-    (wrote_then s.args.out.now 0 s.good.0.0 (config_line config) (lines_on 1 (fresh_of config).space (records_at s.args.script.now c.in-At.start.at)) (c.put_config-place.ensures.value, c.put_config-place.ensures.out_after) (c.put_records.ensures.value, c.put_records.ensures.out_after)) in record { value = both.0; out_after = both.1 }
+    let s = c.args.script.now in
+    let config = c.head-head.result.config in
+    let both = whole s c.args.out.now (script-bytes (goal.at.returns-in-At c).After-head-head)
+        (text-stands s c.head-head.result c.head-head.ensures c.in-At.start c.in-At.is)
+        (wrote_then c.args.out.now 0 c.well_formed.0.0 (config_line config) (lines_on 1 (fresh_of config).space (records_at s c.in-At.start.at)) (c.put_config-place.ensures.value, c.put_config-place.ensures.out_after) (c.put_records.ensures.value, c.put_records.ensures.out_after)) in
+    record { value = both.0; out_after = both.1 }
 
 pub returns-in-Refused : goal.returns-in-Refused
 returns-in-Refused c =
-    let both = whole (goal.at.returns-in-Refused c).After-head-head (refuses (goal.at.returns-in-Refused c).In-Refused-2) (c.put_refused.ensures.value, c.put_refused.ensures.out_after) in record { value = both.0; out_after = both.1 }
+    let s = c.args.script.now in
+    let both = whole s c.args.out.now (script-bytes (goal.at.returns-in-Refused c).After-head-head)
+        (text-refused s c.head-head.result c.head-head.ensures c.in-Refused.refusal c.in-Refused.is)
+        (c.put_refused.ensures.value, c.put_refused.ensures.out_after) in
+    record { value = both.0; out_after = both.1 }

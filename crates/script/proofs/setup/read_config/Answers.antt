@@ -4,10 +4,12 @@ use Prim.Native.Nat.{ℕ}
 use mathlib.Core.List.{List}
 use Rattle.script.specs.declared.setup.ReadConfig.{ReadConfig}
 use Rattle.script.specs.Scripts.{no_config, behind_policy, policy_step, t_step, config_of}
+use Rattle.record.specs.declared.reader.Cursor.{Cursor}
+use Rattle.record.specs.declared.reader.Next.TheVariants.{At}
 use Rattle.record.specs.declared.reader.ReadNumber.{ReadNumber}
 use Rattle.record.specs.Reading.{read_number}
 use Rattle.record.proofs.Steps.{goes_on, stops}
-use Rattle.script.proofs.setup.read_config.Goals.{In-At, In-At-behind_policy, In-At-behind_t}
+use Rattle.script.proofs.setup.read_config.Goals.{In-At-behind_policy}
 use Rattle.script.proofs.setup.read_config.Goals as goal
 
 -- what each number gives
@@ -21,19 +23,14 @@ abbrev after-policy : List ℕ → ℕ → ℕ → ReadNumber → ℕ → ReadCo
 after-policy s n t read = behind_policy s (record { n = n; t = t; policy = read.value; k = 0 })
 
 -- past n, and past t
-past-n : (c : In-At) → let s = c.args.script.now in
-    config_of s ≡ t_step c.number-n.result.value s (read_number s c.in-At.second.at)
+past-n : (s : List ℕ) (n : ReadNumber) → n ≡ read_number s 0 → (second : Cursor) → n.next ≡ At second → config_of s ≡ t_step n.value s (read_number s second.at)
 unfolding config_of
-past-n c =
-    let s = c.args.script.now in
-    goes_on (λ (r : ReadNumber). r.next) (after-n s) no_config c.number-n.result _ c.number-n.ensures _ c.in-At.is
+past-n s n said second e = goes_on (λ (r : ReadNumber). r.next) (after-n s) no_config n _ said second e
 
-past-t : (c : In-At-behind_t) → let s = c.args.script.now in
-    config_of s ≡ policy_step c.number-n.result.value c.number-t.result.value s (read_number s c.in-At-behind_t.third.at)
-past-t c =
-    let s = c.args.script.now in
-    past-n c.before.before.before.before
-    ∙ goes_on (λ (r : ReadNumber). r.next) (after-t s c.number-n.result.value) no_config c.number-t.result _ c.number-t.ensures _ c.in-At-behind_t.is
+past-t : (s : List ℕ) (n t : ReadNumber) → n ≡ read_number s 0 → (second : Cursor) → n.next ≡ At second → t ≡ read_number s second.at
+    → (third : Cursor) → t.next ≡ At third → config_of s ≡ policy_step n.value t.value s (read_number s third.at)
+past-t s n t said second e said_t third f =
+    past-n s n said second e ∙ goes_on (λ (r : ReadNumber). r.next) (after-t s n.value) no_config t _ said_t third f
 
 pub returns-in_default : goal.returns-in_default
 unfolding config_of
@@ -47,7 +44,7 @@ returns-in_default-behind_t c =
     let s = c.args.script.now in
     c.no_config-in_default-behind_t.ensures
     ∙ sym
-    (past-n (goal.at.returns-in_default-behind_t c).In-At
+    (past-n s c.number-n.result c.number-n.ensures c.in-At.second c.in-At.is
     ∙ stops (λ (r : ReadNumber). r.next) (after-t s c.number-n.result.value) no_config c.number-t.result _ c.number-t.ensures _ c.in_default-behind_t.is)
 
 pub returns-in_default-behind_policy : goal.returns-in_default-behind_policy
@@ -55,7 +52,7 @@ returns-in_default-behind_policy c =
     let s = c.args.script.now in
     c.no_config-in_default-behind_policy.ensures
     ∙ sym
-    (past-t (goal.at.returns-in_default-behind_policy c).In-At-behind_t
+    (past-t s c.number-n.result c.number-t.result c.number-n.ensures c.in-At.second c.in-At.is c.number-t.ensures c.in-At-behind_t.third c.in-At-behind_t.is
     ∙ stops (λ (r : ReadNumber). r.next) (after-policy s c.number-n.result.value c.number-t.result.value) no_config c.number-policy.result _ c.number-policy.ensures _
     c.in_default-behind_policy.is)
 
@@ -64,7 +61,7 @@ past-policy : (c : In-At-behind_policy) → let s = c.args.script.now in
     config_of s ≡ after-policy s c.number-n.result.value c.number-t.result.value c.number-policy.result c.in-At-behind_policy.fourth.at
 past-policy c =
     let s = c.args.script.now in
-    past-t c.before.before.before.before
+    past-t s c.number-n.result c.number-t.result c.number-n.ensures c.in-At.second c.in-At.is c.number-t.ensures c.in-At-behind_t.third c.in-At-behind_t.is
     ∙ goes_on (λ (r : ReadNumber). r.next) (after-policy s c.number-n.result.value c.number-t.result.value) no_config c.number-policy.result _ c.number-policy.ensures _
     c.in-At-behind_policy.is
 

@@ -2,13 +2,14 @@
 use Rattle.std.specs.Prelude.{ℕ, ◌+◌, ◌*◌, cond, List, [], ◌∷◌, ◌++◌, length, drop, leb}
 use Rattle.script.specs.declared.run.Printed.{Printed}
 use Rattle.script.specs.declared.run.Printed.TheVariants.{Length, Unprinted}
-use Rattle.script.specs.Scripts.{script_bytes, Records, Ran, Unopened, Opened, ran}
+use Rattle.script.specs.Scripts.{script_bytes, Records, Ran, Unopened, Opened, open_step, ran}
 use Rattle.script.specs.Texts.{config_line, unread_line, held_line}
 use Rattle.calls.specs.Turns.{last_of, Turn, turns_from}
 use Rattle.record.specs.declared.reader.Next.{Next}
 use Rattle.record.specs.declared.reader.Next.TheVariants.{At, Refused}
 use Rattle.space.specs.declared.config.Config.{Config}
 use Rattle.space.specs.declared.space.Space.{Space}
+use Rattle.space.specs.Spaces.{fresh_of}
 use Rattle.text.specs.Texts.{reply_line, refused_line}
 use Rattle.tuple.specs.declared.fault.Fault.{Fault}
 use Rattle.tuple.specs.declared.fault.Fault.TheVariants.{Absent, Present}
@@ -37,6 +38,10 @@ printed (Opened config turns fault space) = config_line config ++ lines_from 1 t
 
 unfoldable pub text : List ℕ → List ℕ
 text s = printed (ran s)
+
+-- the text of a script whose set-up was read: the configuration, and the records from the place `at` on
+unfoldable pub opened : Config → List ℕ → ℕ → List ℕ
+opened config s at = printed (open_step s at (fresh_of config).space (fresh_of config).opening)
 
 -- the most bytes of a text
 abbrev pub text_bytes : ℕ

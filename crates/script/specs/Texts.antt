@@ -34,4 +34,4 @@ count_line count = tuples_text ++ spaced count ++ feed
 
 -- tuples and how many are held
 unfoldable pub held_line : Space → List ℕ
-held_line space = count_line (length (held space))
+held_line space = tuples_text ++ spaced (length (held space)) ++ feed

@@ -59,7 +59,7 @@ long {space = space} left = tidy-long space left.tidy (formed-few space left.for
 
 counted : {s first : List ℕ} {at : ℕ} {whole out : List ℕ} {place here number : ℕ} {space : Space} → Left s first at whole out place here number space
     → held_line space ≡ count_line space.count
-unfolding held_line
+unfolding held_line count_line
 counted left = ap count_line (simp length-take (omega (arith, few left, long left)))
 
 -- a tuple that is looked at is one of them

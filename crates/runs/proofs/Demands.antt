@@ -1,12 +1,12 @@
 -- Each turn of a run is as demand 2 has it. From the laws of a call on a space, and that a run leaves well-formed spaces.
-use mathlib.Core.Path.{◌≡◌, refl, sym, ap, ◌∙◌}
+use mathlib.Core.Path.{◌≡◌, refl, ap}
 use mathlib.Core.List.{List}
 use mathlib.Core.Logic.{◌⊎◌, inl, inr}
 use Rattle.runs.specs.Theorem.{SoundConfig, turn_on, Demanded}
 use Rattle.runs.proofs.Configs.{config-sound, config-run}
 use Rattle.calls.specs.declared.turn.Applied.{Applied}
 use Rattle.calls.specs.Laws.{Obeyed}
-use Rattle.calls.specs.Turns.{last, applied}
+use Rattle.calls.specs.Turns.{last}
 use Rattle.calls.proofs.CallLaws.{unchanged}
 use Rattle.calls.proofs.CallSteps.{Steps, steps}
 use Rattle.calls.proofs.ObeyedLaws.{obeyed-rules}

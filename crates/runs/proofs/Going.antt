@@ -1,7 +1,7 @@
 -- A correct process goes on: its replies fit, it is never stuck, and it has a call due while undecided.
 use mathlib.Core.Path.{◌≡◌, refl, sym, ap, ◌∙◌}
 use mathlib.Core.Logic.{◌⊎◌, inl, inr, ⊎_elim}
-use Prim.Native.Nat.{ℕ, ◌+◌}
+use Prim.Native.Nat.{ℕ}
 use native.Mathlib.Omega.{arith}
 use mathlib.Core.Bool.{true, false}
 use mathlib.Core.List.{List, [], ◌∷◌, ◌++◌}
@@ -9,7 +9,7 @@ use Rattle.process.specs.declared.process.Next.TheVariants.{Calls}
 use Rattle.process.specs.declared.process.Process.{Process}
 use Rattle.process.specs.Asks.{out_call}
 use Rattle.process.specs.Procedure.{begun, started}
-use Rattle.runs.specs.Correct.{Standing, listed, due, Correct}
+use Rattle.runs.specs.Correct.{Standing, listed, Correct}
 use Rattle.runs.specs.Correct.Standing.{idle, busy, stuck}
 use Rattle.runs.specs.Decisions.{Decision, HasDecided}
 use Rattle.runs.specs.Laws.{Fitting, NeverStuck, Waiting, GoingOn}

@@ -1,11 +1,10 @@
 -- The tests of correct processes and of proposals are what they should be, from the definitions and the coding of offsets.
-use mathlib.Core.Path.{◌≡◌, refl, ap, ap₂, sym, ◌∙◌}
-use mathlib.Core.Bool.{Bool, true, false≢true, ◌&&◌, or-true, and-eq-true_iff}
+use mathlib.Core.Path.{◌≡◌, refl, ap, sym, ◌∙◌}
+use mathlib.Core.Bool.{Bool, true, false≢true, or-true, and-eq-true_iff}
 use mathlib.Core.List.Memᴰ
 use mathlib.Core.List.{List, [], ◌∷◌, Memᴰ}
 use mathlib.Core.Logic.{◌↔◌, inl, inr}
 use Prim.Native.Nat.{ℕ}
-use native.Mathlib.Omega.{arith}
 use lib.Dec.{eqb}
 use borrow.Author.Tests.{eqb-true, eq-eqb}
 use borrow.Table.Steps.{cases}
@@ -15,8 +14,6 @@ use Rattle.runs.specs.Laws.{CorrectRule, DoneProposalRule, OutDoneRule}
 use Rattle.space.specs.Shapes.{process_of, proposed_code, round_of, is_proposal}
 use Rattle.calls.specs.Turns.{Turn}
 use Rattle.tuple.specs.declared.field.Field.{Field}
-use Rattle.tuple.specs.declared.field.Tuple.{Tuple}
-use Rattle.tuple.specs.declared.field.Call.{Call}
 use Rattle.tuple.specs.declared.offset.Offset.{Offset}
 use Rattle.tuple.specs.declared.reply.Outcome.{Outcome}
 use Rattle.tuple.specs.declared.reply.Outcome.TheVariants.{Done, None, Found, Inserted, Held, Refused}

@@ -42,7 +42,6 @@ use Rattle.tuple.specs.Matching.{matches, oldest_of}
 use Rattle.tuple.specs.Refusals.{refusal}
 use Rattle.tuple.proofs.MatchRules.{oldest-rule}
 use Rattle.tuple.proofs.NoFault.{absent, fields-sound, tuple-sound, call-sound}
-use Rattle.varint.specs.Reading.{largest}
 use Rattle.varint.proofs.ReadingLaws.{picked}
 use Rattle.varint.proofs.WritingLaws.{width-least}
 

@@ -1,10 +1,10 @@
 -- The laws that the loop which owns its space cites, over plain values: its locals are the parts of a space, what its search finds decides what a call does,
 -- and what it sets there carries the change out. From the laws of matching, of effects and of changes.
-use mathlib.Core.Path.{◌≡◌, refl, sym, ap, ◌∙◌, subst}
-use Prim.Native.Nat.{ℕ, ◌+◌, ◌-◌, ◌≤◌, ◌<◌, min}
+use mathlib.Core.Path.{◌≡◌, sym, ap, ◌∙◌, subst}
+use Prim.Native.Nat.{ℕ, ◌+◌, ◌≤◌, ◌<◌, min}
 use native.Mathlib.Omega.{arith}
 use mathlib.Core.Bool.{Bool, true, false, cond, not, and-false}
-use mathlib.Core.List.{List, [], ◌++◌}
+use mathlib.Core.List.{List, []}
 use lib.ListN.{length, take, get_or, set, replicate, length-append, length-take, length-replicate, get_or-replicate}
 use lib.Seq.{get_or-set_same, get_or-set_other}
 use lib.Dec.{ltb, eqb}
@@ -12,32 +12,27 @@ use borrow.Author.Tests.{lt-ltb, le-ltb, le-leb, ltb-true, ne_eqb, eqb-true, eqb
 use borrow.Table.Steps.{cases}
 use Rattle.script.specs.Private.{looks, sought_of, found_at, done_by}
 use Rattle.calls.specs.declared.change.Change.TheVariants.{Append, Remove}
-use Rattle.calls.specs.declared.effect.Effect.{Effect}
 use Rattle.calls.specs.Changes.{removed, carried_out}
-use Rattle.calls.specs.Effects.{effect, effect_by}
 use Rattle.calls.specs.Turns.{first_refusal, judged_by, judged}
 use Rattle.calls.proofs.EffectLaws.{out-effect, search-effect}
 use Rattle.calls.proofs.RunSteps.{fresh-space}
 use Rattle.policy.specs.declared.verdicts.Verdict.{Verdict}
 use Rattle.policy.specs.declared.verdicts.Verdict.TheVariants.{Permit, Refuse}
 use Rattle.policy.specs.Policies.{verdict}
-use Rattle.policy.specs.Verdicts.{demand}
 use Rattle.space.specs.declared.config.Config.{Config}
 use Rattle.space.specs.declared.space.Space.{Space}
 use Rattle.space.specs.Bounds.{table_places}
 use Rattle.space.specs.Configs.{sound}
-use Rattle.space.specs.Spaces.{held, space_of, well_formed, fresh_of, Tidy}
+use Rattle.space.specs.Spaces.{held, well_formed, fresh_of, Tidy}
 use Rattle.space.specs.Tables.{entered, table_from, empty_table}
-use Rattle.space.proofs.SpaceRules.{formed-bounded, formed-few}
+use Rattle.space.proofs.SpaceRules.{formed-bounded}
 use Rattle.tuple.specs.declared.field.Tuple.{Tuple}
 use Rattle.tuple.specs.declared.field.Call.{Call}
 use Rattle.tuple.specs.declared.matching.Found.{Found}
-use Rattle.tuple.specs.declared.matching.Found.TheVariants.{At, Nowhere}
 use Rattle.tuple.specs.declared.matching.Matched.{Matched}
 use Rattle.tuple.specs.Bounds.{places, capacity}
 use Rattle.tuple.specs.Fields.{out, blank_tuple}
 use Rattle.tuple.specs.Matching.{matches, oldest_of, found_tuple, matched_of}
-use Rattle.tuple.specs.Refusals.{refusal}
 use Rattle.tuple.proofs.MatchingLaws.{Passed, held-tuple, found_here, found_nowhere}
 
 -- ---- the locals

@@ -2,7 +2,7 @@
 -- From the laws that a number which is written reads back, and that what reads is what is written.
 use mathlib.Core.Path.{◌≡◌, refl, sym, ap, ◌∙◌, subst}
 use mathlib.Core.Bool.{Bool, cond}
-use mathlib.Core.List.{List, [], ◌∷◌, ◌++◌, append_assoc, append-nil}
+use mathlib.Core.List.{List, [], ◌++◌, append_assoc, append-nil}
 use mathlib.Core.Logic.{◌⊎◌, inl, inr, ⊎_elim}
 use Prim.Native.Nat.{ℕ, ◌+◌, ◌≤◌}
 use native.Mathlib.Omega.{arith}
@@ -18,7 +18,6 @@ use Rattle.script.specs.Laws.SetUpStops.{n-unread, t-unread, policy-unread, k-un
 use Rattle.script.specs.Scripts.{no_config, k_step, behind_policy, policy_step, t_step, config_of, set_up_bytes}
 use Rattle.record.specs.declared.reader.Next.{Next}
 use Rattle.record.specs.declared.reader.Next.TheVariants.{Refused}
-use Rattle.record.specs.declared.reader.ReadNumber.{ReadNumber}
 use Rattle.record.specs.FirstFault.{Unread}
 use Rattle.record.specs.FirstFault.Unread.{cut, overlong}
 use Rattle.record.specs.Reading.{place, onward, number_step, read_number}

@@ -18,7 +18,7 @@ returns-in-Refused c =
     let a = c.args in
     let number = decimal a.number in
     let both = wrote_then a.out.now a.at c.well_formed.0.0 (number ++ gap) (refused_line c.in-Refused.refusal)
-        (wrote_then a.out.now a.at c.well_formed.0.0 number gap (c.put_number-head.ensures.value, c.put_number-head.ensures.out_after) (c.put-place.ensures.value, c.put-place.ensures.out_after))
-        (c.put_refused.ensures.value, c.put_refused.ensures.out_after) in
+    (wrote_then a.out.now a.at c.well_formed.0.0 number gap (c.put_number-head.ensures.value, c.put_number-head.ensures.out_after) (c.put-place.ensures.value, c.put-place.ensures.out_after))
+    (c.put_refused.ensures.value, c.put_refused.ensures.out_after) in
     let same = ap (unread_of a.number) c.in-Refused.is in
     record { value = rw same both.0; out_after = rw same both.1 }

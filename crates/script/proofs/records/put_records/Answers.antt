@@ -2,9 +2,9 @@
 -- In the search no tuple passed matches, and the fields passed of the present one do; in the removal the array without the place before the loop's is the first
 -- one without the tuple.
 use mathlib.Core.Path.{◌≡◌, refl, sym, ap, ◌∙◌, subst}
-use mathlib.Core.Bool.{true, false}
+use mathlib.Core.Bool.{true}
 use mathlib.Core.List.{List, ◌++◌}
-use Prim.Native.Nat.{ℕ, ◌+◌, ◌-◌, ◌≤◌, ◌<◌, min}
+use Prim.Native.Nat.{ℕ, ◌+◌, ◌-◌, ◌≤◌, ◌<◌}
 use native.Mathlib.Omega.{arith}
 use lib.ListN.{length, get_or, length-take}
 use Rattle.script.specs.declared.steps.Stepped.{Stepped}
@@ -33,12 +33,12 @@ use Rattle.space.specs.declared.config.Config.{Config}
 use Rattle.space.specs.declared.space.Space.{Space}
 use Rattle.space.specs.Spaces.{well_formed, fresh_of}
 use Rattle.space.proofs.SpaceRules.{formed-bounded, formed-few}
-use Rattle.text.proofs.PlaceLaws.{wrote_then, wrote-length}
+use Rattle.text.proofs.PlaceLaws.{wrote_then}
 use Rattle.tuple.specs.declared.fault.Fault.{Fault}
 use Rattle.tuple.specs.declared.fault.Fault.TheVariants.{Absent}
 use Rattle.tuple.specs.declared.field.Call.{Call}
 use Rattle.tuple.specs.declared.field.Tuple.{Tuple}
-use Rattle.tuple.specs.Bounds.{places, capacity}
+use Rattle.tuple.specs.Bounds.{capacity}
 use Rattle.tuple.specs.Faults.{call_fault}
 use Rattle.tuple.specs.Matching.{oldest_of}
 use Rattle.tuple.proofs.MatchingLaws as matching
@@ -104,7 +104,7 @@ first_said k =
     let config = k.args.config in
     let free = faultless config call (verdict (space k) call) (sound-read k).sound in
     elim k.if-asks_tuples.branch [
-      then-asks_tuples w ↦ w.first-is ∙ w.list_refusal-first.ensures ∙ ap (behind_stranger config call) (asked-list (space k) call (sym k.asks_tuples.ensures ∙ w.if-asks_tuples.true)) ∙ sym free
+      | then-asks_tuples w ↦ w.first-is ∙ w.list_refusal-first.ensures ∙ ap (behind_stranger config call) (asked-list (space k) call (sym k.asks_tuples.ensures ∙ w.if-asks_tuples.true)) ∙ sym free
       | else-asks_tuples w ↦
           w.first-is
           ∙ w.lent_refusal-first.ensures
@@ -120,7 +120,7 @@ met k =
     let template = k.call-read.result.call.template in
     let i = k.tuples.i in
     elim k.tuples-test.branch [
-      else-tuples-test w ↦ subst (Met seen tuples template) (sym (w.spot-is ∙ k.tuples.invariant.1)) (met-nowhere seen tuples template i k.tuples.invariant.2 (omega (arith, w.tuples-test.false)))
+      | else-tuples-test w ↦ subst (Met seen tuples template) (sym (w.spot-is ∙ k.tuples.invariant.1)) (met-nowhere seen tuples template i k.tuples.invariant.2 (omega (arith, w.tuples-test.false)))
       | then-tuples-test+else-tuple-wanted+else-loop-j-test w ↦
           let below = looked-at k.loop-cursor.invariant.0 k.if-asks_tuples.first k.call-read.result.call.code seen i k.sought-held.ensures w.tuples-test.true in
           subst (Met seen tuples template) (sym w.spot-is)
@@ -187,8 +187,8 @@ returns-in_default c =
     let step = rule s here owned read (effect_of owned read.call read.next) c.requires.bytes c.loop-cursor-test.true left.formed c.call-read.ensures refl in
     let stop = at-stop s here number owned (stepped read (effect_of owned read.call read.next)) step c.in_default.field-0 c.in_default.is ∙ ap (λ (t : List ℕ). line ++ t) (counted left) in
     let both = finished left stop
-        (wrote_then c.loop-cursor.out c.loop-cursor.place (omega (arith, left.long, left.small)) line (count_line c.loop-cursor.count)
-        (c.put_unread-end.ensures.value, c.put_unread-end.ensures.out_after) (c.put_count.ensures.value, c.put_count.ensures.out_after)) in
+    (wrote_then c.loop-cursor.out c.loop-cursor.place (omega (arith, left.long, left.small)) line (count_line c.loop-cursor.count)
+    (c.put_unread-end.ensures.value, c.put_unread-end.ensures.out_after) (c.put_count.ensures.value, c.put_count.ensures.out_after)) in
     record { value = both.0; out_after = both.1 }
 
 pub tuples-init : goal.tuples-init
@@ -338,5 +338,5 @@ returns c =
     let s = c.args.script.now in
     let owned = space_from c.args.config c.loop-cursor.tuples c.loop-cursor.table c.loop-cursor.count in
     let both = finished left (at-end s c.loop-cursor.cursor.at c.loop-cursor.number owned c.loop-cursor-test.false ∙ counted left)
-        (c.put_count-2.ensures.value, c.put_count-2.ensures.out_after) in
+    (c.put_count-2.ensures.value, c.put_count-2.ensures.out_after) in
     record { value = both.0; out_after = both.1 }

@@ -10,7 +10,7 @@ use Rattle.script.proofs.LineLaws.{Left}
 use Rattle.script.proofs.OwnerLaws.{space_from, Sixes}
 use Rattle.calls.proofs.ChangeLaws.{Moved}
 use Rattle.space.specs.Spaces.{fresh_of}
-use Rattle.tuple.specs.Bounds.{places, capacity}
+use Rattle.tuple.specs.Bounds.{capacity}
 use Rattle.tuple.proofs.MatchingLaws as matching
 use Rattle.tuple.proofs.MatchingLaws.{Passed}
 use Rattle.script.proofs.records.put_records.Given as goal

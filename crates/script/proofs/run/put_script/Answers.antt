@@ -2,7 +2,7 @@
 use mathlib.Core.Path.{◌≡◌, sym, ap, ◌∙◌}
 use Prim.Native.Nat.{ℕ}
 use native.Mathlib.Omega.{arith}
-use mathlib.Core.List.{List, ◌++◌}
+use mathlib.Core.List.{List}
 use lib.ListN.{length}
 use lib.Seq.{sets}
 use Rattle.script.specs.Printing.{lines_on, text}
@@ -37,14 +37,14 @@ returns-in-At c =
     let s = c.args.script.now in
     let config = c.head-head.result.config in
     let both = whole s c.args.out.now (script-bytes (goal.at.returns-in-At c).After-head-head)
-        (text-stands s c.head-head.result c.head-head.ensures c.in-At.start c.in-At.is)
-        (wrote_then c.args.out.now 0 c.well_formed.0.0 (config_line config) (lines_on 1 (fresh_of config).space (records_at s c.in-At.start.at)) (c.put_config-place.ensures.value, c.put_config-place.ensures.out_after) (c.put_records.ensures.value, c.put_records.ensures.out_after)) in
+    (text-stands s c.head-head.result c.head-head.ensures c.in-At.start c.in-At.is)
+    (wrote_then c.args.out.now 0 c.well_formed.0.0 (config_line config) (lines_on 1 (fresh_of config).space (records_at s c.in-At.start.at)) (c.put_config-place.ensures.value, c.put_config-place.ensures.out_after) (c.put_records.ensures.value, c.put_records.ensures.out_after)) in
     record { value = both.0; out_after = both.1 }
 
 pub returns-in-Refused : goal.returns-in-Refused
 returns-in-Refused c =
     let s = c.args.script.now in
     let both = whole s c.args.out.now (script-bytes (goal.at.returns-in-Refused c).After-head-head)
-        (text-refused s c.head-head.result c.head-head.ensures c.in-Refused.refusal c.in-Refused.is)
-        (c.put_refused.ensures.value, c.put_refused.ensures.out_after) in
+    (text-refused s c.head-head.result c.head-head.ensures c.in-Refused.refusal c.in-Refused.is)
+    (c.put_refused.ensures.value, c.put_refused.ensures.out_after) in
     record { value = both.0; out_after = both.1 }

@@ -1,5 +1,5 @@
 -- Each export answers as the library's own definition does to the same arguments, from the definitions in numbers.
-use mathlib.Core.Path.{◌≡◌, refl, sym, ap, ◌∙◌, subst}
+use mathlib.Core.Path.{◌≡◌, refl, sym, ap, subst}
 use mathlib.Core.List.{List, ◌++◌}
 use native.Mathlib.Omega.{arith}
 use Prim.Native.Nat.{ℕ, ◌+◌, ◌≤◌, ◌<◌}
@@ -24,7 +24,6 @@ use Rattle.record.specs.Writing.{call_bytes, written_of, buffer_step, left_of as
 use Rattle.record.proofs.Length.{at_most}
 use Rattle.record.proofs.WrittenLaws.{written-fault, written-full, written-whole}
 use Rattle.script.specs.declared.run.Printed.{Printed}
-use Rattle.script.specs.declared.run.Printed.TheVariants as printed
 use Rattle.script.specs.Printing.{text, printed_of, left_of as text_left}
 use Rattle.script.proofs.RoomLaws.{text-room, room-rules}
 use Rattle.space.specs.declared.config.Config.{Config}

@@ -25,7 +25,6 @@ use Rattle.space.specs.declared.space.Opening.TheVariants.{Stands, Unopened}
 use Rattle.space.specs.declared.space.Space.{Space}
 use Rattle.tuple.specs.declared.field.Call.{Call}
 use Rattle.tuple.specs.declared.field.Tuple.{Tuple}
-use Rattle.tuple.specs.declared.offset.Offset.{Offset}
 use Rattle.tuple.specs.declared.offset.Offset.TheVariants.{Bottom, Hundredths}
 use Rattle.tuple.specs.declared.refusal.Refusal.TheVariants.{Unsound, Cut, Beyond, Unknown, Misshapen, Stranger, Denied, Full, LongScript, NoRoom, Unfit, SecondProposal, Unborne, Unreached, Unscripted}
 use Rattle.tuple.specs.declared.reply.Outcome.{Outcome}

@@ -64,10 +64,10 @@ fields-bytes entry (field ∷ fields) h =
     let sound = fields-sound entry field fields h in
     both_bytes (field_bytes field) (fields_bytes fields) (field-bytes sound.0) (fields-bytes entry fields sound.1)
 
-part_bytes : (used entry : Bool) (tuple : Tuple) → part_fault tuple used entry ≡ Absent → Bytes (part_bytes used tuple)
+part-bytes : (used entry : Bool) (tuple : Tuple) → part_fault tuple used entry ≡ Absent → Bytes (part_bytes used tuple)
 unfolding part_bytes part_fault tuple_bytes
-part_bytes false entry tuple h = tt
-part_bytes true entry tuple h =
+part-bytes false entry tuple h = tt
+part-bytes true entry tuple h =
     let sound = tuple-sound entry tuple h in
     both_bytes (bytes_of tuple.count) (fields_bytes (take tuple.count tuple.fields)) (number-bytes tuple.count (omega arith)) (fields-bytes entry _ sound.fields)
 
@@ -77,8 +77,8 @@ call-bytes call typed h =
     let sound = call-sound call h in
     both_bytes (bytes_of call.process) _ (number-bytes call.process (omega (arith, typed.process)))
     (both_bytes (bytes_of call.code) _ (number-bytes call.code (omega arith))
-    (both_bytes (part_bytes (uses_template call.code) call.template) _ (part_bytes _ false call.template sound.template.fault)
-    (part_bytes _ true call.entry sound.entry.fault)))
+    (both_bytes (part_bytes (uses_template call.code) call.template) _ (part-bytes _ false call.template sound.template.fault)
+    (part-bytes _ true call.entry sound.entry.fault)))
 
 -- calls without fault that the struct's types can hold
 pub record Sound (call : Call) : Type 0 where

@@ -10,7 +10,7 @@ use Rattle.record.specs.Reading.{place}
 use Rattle.record.specs.Writing.{call_bytes}
 use Rattle.record.proofs.ReadBack.{read_back}
 use Rattle.record.proofs.WrittenLaws.{call_length}
-use Rattle.script.specs.Scripts.{Records, prepend, records_at, records_bytes}
+use Rattle.script.specs.Scripts.{prepend, records_at, records_bytes}
 use Rattle.script.proofs.RecordLaws.{records-end, records-on}
 use Rattle.tuple.specs.declared.fault.Fault.TheVariants.{Absent}
 use Rattle.tuple.specs.declared.field.Call.{Call}

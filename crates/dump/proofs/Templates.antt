@@ -5,7 +5,6 @@ use lib.ListN.{length}
 use Rattle.dump.specs.Appending.{template_of}
 use Rattle.policy.specs.Shapes.{is_weak_template, is_weak_entry, is_decision_template, is_decision}
 use Rattle.space.specs.Shapes.{round_of}
-use Rattle.space.proofs.ShapeLaws.{four}
 use Rattle.tuple.specs.declared.fault.Fault.TheVariants.{Absent}
 use Rattle.tuple.specs.declared.field.Tuple.{Tuple}
 use Rattle.tuple.specs.declared.field.Call.{Call}

@@ -10,7 +10,7 @@ use lib.Seq.{drop-append-le, take-append-add}
 use borrow.Author.Tests.{ltb-true, ltb-false}
 use borrow.Table.Steps.{cases}
 use Rattle.monitor.specs.declared.stray.Stray.{Stray}
-use Rattle.monitor.specs.declared.stray.Stray.TheVariants.{Nobody, Refused}
+use Rattle.monitor.specs.declared.stray.Stray.TheVariants.{Nobody}
 use Rattle.monitor.specs.Laws.{Judged, Halfway}
 use Rattle.monitor.specs.Strays.{stray_of}
 use Rattle.monitor.proofs.RefusalLaws.{Comes, comes}

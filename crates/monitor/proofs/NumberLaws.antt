@@ -1,17 +1,17 @@
 -- The number of a record is at least 1, and at most as many as a script has bytes. From the law of the first stray and the reading of records.
 use mathlib.Core.Path.{◌≡◌, refl, sym, ap, ◌∙◌}
-use mathlib.Core.List.{List, [], ◌∷◌, ◌++◌}
-use Prim.Native.Nat.{ℕ, zero, suc, ◌+◌, ◌≤◌}
+use mathlib.Core.List.{List, ◌∷◌}
+use Prim.Native.Nat.{ℕ, zero, suc, ◌≤◌}
 use native.Mathlib.Omega.{arith}
 use lib.Dec.{ltb}
 use lib.ListN.{length, length-append}
 use borrow.Table.Steps.{cases}
 use Rattle.monitor.specs.declared.stray.Stray.{Stray}
 use Rattle.monitor.specs.declared.stray.Stray.TheVariants.{At}
-use Rattle.monitor.specs.Laws.{Judged, NumberRule}
+use Rattle.monitor.specs.Laws.{NumberRule}
 use Rattle.monitor.specs.Strays.{stray_of}
 use Rattle.monitor.proofs.RefusalLaws.{Comes, refused, judged, comes}
-use Rattle.monitor.proofs.StrayLaws.{strays-in, stray-rule}
+use Rattle.monitor.proofs.StrayLaws.{stray-rule}
 use Rattle.record.specs.declared.reader.Next.{Next}
 use Rattle.record.specs.declared.reader.Next.TheVariants as next
 use Rattle.record.specs.Reading.{call_at}

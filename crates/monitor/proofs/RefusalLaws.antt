@@ -10,7 +10,7 @@ use lib.ListN.{length}
 use borrow.Author.Tests.{eqb-true, eqb-false, leb-true, leb-false, le-leb, lt-leb}
 use borrow.Table.Steps.{cases}
 use Rattle.monitor.specs.declared.stray.Stray.{Stray}
-use Rattle.monitor.specs.declared.stray.Stray.TheVariants.{At, Refused}
+use Rattle.monitor.specs.declared.stray.Stray.TheVariants.{Refused}
 use Rattle.monitor.specs.Laws.{Judged, RefusedFor, RefusalOrder}
 use Rattle.monitor.specs.Laws.RefusedFor.{long, unreadable, unsound, beyond}
 use Rattle.monitor.specs.Strays.{earliest, stray_at, stray_in, stray_on, stray_step, stray_of}

@@ -1,13 +1,13 @@
 -- What is kept of a process that is watched, over plain values: a number that stands for no offset begins no round, and after the reply to a due call what is
 -- kept stands for what the monitor of `runs` keeps. From the definitions.
-use mathlib.Core.Path.{◌≡◌, refl, sym, ap, ◌∙◌}
-use mathlib.Core.Bool.{Bool, true, false, cond, not, ◌&&◌, and-false}
+use mathlib.Core.Path.{◌≡◌, refl}
+use mathlib.Core.Bool.{false, cond, not, and-false}
 use mathlib.Core.List.{List, [], ◌∷◌}
 use Prim.Native.Nat.{ℕ, zero, suc, ◌≤◌, ◌<◌}
 use native.Mathlib.Omega.{arith}
 use lib.Dec.{leb, eqb}
 use lib.ListN.{length, get_or}
-use borrow.Author.Tests.{leb-true, leb-false, lt-leb}
+use borrow.Author.Tests.{leb-false, lt-leb}
 use borrow.Table.Steps.{cases}
 use Rattle.process.specs.Procedure.{proposable, started}
 use Rattle.space.specs.declared.config.Config.{Config}
@@ -15,7 +15,7 @@ use Rattle.space.specs.Proposals.{offered}
 use Rattle.tuple.specs.declared.offset.Offset.{Offset}
 use Rattle.tuple.specs.declared.offset.Offset.TheVariants.{Bottom}
 use Rattle.tuple.specs.Bounds.{largest_code}
-use Rattle.tuple.specs.Offsets.{bottom, in_range, code_of, offset_of}
+use Rattle.tuple.specs.Offsets.{bottom, in_range, offset_of}
 use Rattle.tuple.proofs.OffsetLaws.{one-to-one}
 
 -- outside a list nothing is begun

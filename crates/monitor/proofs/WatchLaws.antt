@@ -1,16 +1,14 @@
 -- What is kept of each process stands for what the monitor of `runs` keeps, one call after the other. From the laws of the monitor.
-use mathlib.Core.Path.{◌≡◌, refl, sym, ap, ◌∙◌, subst}
-use mathlib.Core.Bool.{Bool, true, false, not, ◌&&◌, ◌||◌}
+use mathlib.Core.Path.{◌≡◌, refl, sym, ap, ◌∙◌}
+use mathlib.Core.Bool.{true, false, not, ◌&&◌, ◌||◌}
 use mathlib.Core.List.{List, [], ◌∷◌, ◌++◌}
-use Prim.Native.Nat.{ℕ, ◌+◌, ◌-◌, ◌≤◌, ◌<◌}
+use Prim.Native.Nat.{ℕ, ◌≤◌, ◌<◌}
 use native.Mathlib.Omega.{arith}
 use lib.Dec.{ltb, eqb}
 use lib.ListN.{length, get_or, set, length-set, get_or-replicate}
 use lib.Seq.{get_or-set_same, get_or-set_other}
 use borrow.Author.Tests.{le-ltb, ltb-true, ltb-false, eqb-true, eqb-false}
 use borrow.Table.Steps.{cases}
-use Rattle.monitor.specs.declared.tracked.Stage.{Stage}
-use Rattle.monitor.specs.declared.tracked.Stage.TheVariants.{Between, Within, Stuck}
 use Rattle.monitor.specs.declared.tracked.Tracked.{Tracked}
 use Rattle.monitor.specs.Private.{untracked, standing_in, standing_of, begun_in, due_by, stage_of, kept_after, took_by}
 use Rattle.calls.specs.Turns.{applied, last}
@@ -19,12 +17,11 @@ use Rattle.process.specs.declared.process.Next.TheVariants.{Calls, Decides, Refu
 use Rattle.process.specs.declared.process.Phase.{Phase}
 use Rattle.process.specs.declared.process.Phase.TheVariants.{Proposing, Reading, Deciding, Decided}
 use Rattle.process.specs.declared.process.Process.{Process}
-use Rattle.process.specs.declared.process.Step.{Step}
 use Rattle.process.specs.Fits.{fits}
 use Rattle.process.specs.Procedure.{started, advanced, is_decided, noted, resumed}
 use Rattle.process.specs.States.{startable, well_formed}
 use Rattle.process.specs.Tallies.{settled}
-use Rattle.runs.specs.Correct.{Standing, idle, busy, stuck, Watch, unbegun, listed, started_by, is_calls, due, state_of, handed, took_turn, right, monitored, Correct}
+use Rattle.runs.specs.Correct.{Standing, idle, busy, stuck, Watch, unbegun, listed, started_by, is_calls, due, state_of, handed, right, monitored, Correct}
 use Rattle.runs.proofs.Monitoring.{taken, skips}
 use Rattle.runs.proofs.MonitorLaws.{monitor-rules}
 use Rattle.space.specs.declared.config.Config.{Config}

@@ -1,15 +1,15 @@
 -- The loop over the records, one turn at a time: what is kept of each member stands for what the monitor keeps behind the calls made so far, so that the end, or
 -- the first call that is not due, is the answer. From the laws of the answer, of the monitor and of records.
 use mathlib.Core.Path.{◌≡◌, refl, sym, ap, ◌∙◌, subst}
-use mathlib.Core.Bool.{Bool, true, false, cond, not, false≢true}
-use mathlib.Core.List.{List, [], ◌∷◌, ◌++◌, append_assoc, append-nil}
+use mathlib.Core.Bool.{true, false, cond, not, false≢true}
+use mathlib.Core.List.{List, [], ◌∷◌, ◌++◌, append-nil}
 use Prim.Native.Nat.{ℕ, ◌+◌, ◌-◌, ◌/◌, ◌%◌, ◌^◌, ◌≤◌, ◌<◌}
 use native.Mathlib.Omega.{arith}
 use lib.Dec.{ltb, leb, eqb}
 use lib.ListN.{length, get_or, replicate, length-append, length-set, length-replicate, get_or-replicate}
 use lib.ListN.{set as set·}
 use lib.Seq.{append_snoc, get_or-set_same, get_or-set_other}
-use borrow.Author.Tests.{lt-ltb, le-ltb, leb-true, leb-false, eqb-true, eqb-false, eq-eqb, not-true, not-false}
+use borrow.Author.Tests.{lt-ltb, le-ltb, leb-true, leb-false, eqb-true, eqb-false, not-true, not-false}
 use borrow.Table.Steps.{cases}
 use Rattle.monitor.specs.declared.records.Watched.{Watched}
 use Rattle.monitor.specs.declared.stray.Stray.TheVariants.{Nobody, At}
@@ -19,14 +19,11 @@ use Rattle.monitor.specs.Private.{untracked, is_member, took_by, judged_turn}
 use Rattle.monitor.specs.Strays.{stray_of}
 use Rattle.monitor.proofs.StrayLaws.{follow-rule, stray-rule}
 use Rattle.monitor.proofs.WatchLaws.{Kept, kept-first, kept-other, due-same, kept-took}
-use Rattle.calls.specs.declared.effect.Effect.{Effect}
-use Rattle.calls.specs.declared.turn.Applied.{Applied}
-use Rattle.calls.specs.Changes.{carried_out}
 use Rattle.calls.specs.Turns.{applied, turns_from, last_of, last}
 use Rattle.calls.proofs.RunSteps.{run-formed, fresh-run, after_run}
 use Rattle.record.specs.declared.reader.Cursor.{Cursor}
 use Rattle.record.specs.declared.reader.Next.TheVariants as next
-use Rattle.runs.specs.Correct.{Watch, due, Correct, right}
+use Rattle.runs.specs.Correct.{Watch, due, Correct}
 use Rattle.runs.proofs.Monitoring.{right-same}
 use Rattle.runs.proofs.MonitorLaws.{monitor-rules}
 use Rattle.runs.proofs.Starting.{due-rule}

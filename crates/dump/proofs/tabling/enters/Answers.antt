@@ -9,13 +9,21 @@ use Rattle.dump.proofs.tabling.enters.Goals as goal
 
 pub returns-then-was_taken : goal.returns-then-was_taken
 returns-then-was_taken c =
-    let s = c.before in
-    record { value = was-taken s.args.config s.args.table.now s.args.tuple s.requires.0 s.requires.1 (sym c.taken_in-was_taken.ensures ∙ c.if-was_taken.true); table_after = c.enter.ensures }
+    let a = c.args in
+    let r = c.requires in
+    record {
+      value = was-taken a.config a.table.now a.tuple r.tuple_value r.table_len (sym c.taken_in-was_taken.ensures ∙ c.if-was_taken.true);
+      table_after = c.enter.ensures;
+    }
 
 pub returns-else-was_taken : goal.returns-else-was_taken
 returns-else-was_taken c =
-    let s = c.before.before in
-    let config = s.args.config in
-    let tuple = s.args.tuple in record { value = c.taken_in.ensures
-          ∙ ap (λ (table : List ℕ). (by_table config table).taken (round_of tuple) (process_of tuple)) c.enter.ensures
-          ∙ was_free config s.args.table.now tuple s.requires.0 s.requires.1 (sym c.taken_in-was_taken.ensures ∙ c.if-was_taken.false); table_after = c.enter.ensures }
+    let a = c.args in
+    let r = c.requires in
+    record {
+      value =
+          c.taken_in.ensures
+          ∙ ap (λ (table : List ℕ). (by_table a.config table).taken (round_of a.tuple) (process_of a.tuple)) c.enter.ensures
+          ∙ was_free a.config a.table.now a.tuple r.tuple_value r.table_len (sym c.taken_in-was_taken.ensures ∙ c.if-was_taken.false);
+      table_after = c.enter.ensures;
+    }

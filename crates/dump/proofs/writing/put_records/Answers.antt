@@ -1,6 +1,6 @@
 -- `dump::writing::put_records` meets its contract. The loop's invariant: the buffer with the records left is the buffer with all of them.
 use mathlib.Core.Path.{◌≡◌, refl, sym, ap, ◌∙◌}
-use Prim.Native.Nat.{◌+◌, ◌-◌, ◌<◌}
+use Prim.Native.Nat.{◌+◌, ◌<◌}
 use native.Mathlib.Omega.{arith}
 use mathlib.Core.List.{◌++◌}
 use lib.ListN.{length}
@@ -10,13 +10,12 @@ use Rattle.dump.proofs.SoundCalls.{call-faultless}
 use Rattle.dump.proofs.WritingSteps.{bytes_from, all-bytes, none_left, left-bytes, left-length}
 use Rattle.record.specs.Writing.{call_bytes}
 use Rattle.record.proofs.WrittenLaws.{Wrote, wrote_then, wrote-length}
-use Rattle.space.specs.Spaces.{Typed}
 use Rattle.space.proofs.Lengths.{typed}
 use Rattle.space.proofs.SpaceRules.{formed-sound, formed-few}
 use Rattle.tuple.specs.declared.field.Call.{Call}
 use Rattle.tuple.specs.Bounds.{capacity}
 use Rattle.tuple.specs.Faults.{call_fault}
-use Rattle.dump.proofs.writing.put_records.Goals.{After-put_record-place, In-loop-i, Start}
+use Rattle.dump.proofs.writing.put_records.Goals.{After-put_record-place, In-loop-i}
 use Rattle.dump.proofs.writing.put_records.Goals as goal
 
 pub loop-i-init : goal.loop-i-init
@@ -24,18 +23,15 @@ loop-i-init c =
     let a = c.args in
     (omega arith, ap (sets a.buffer.now a.at) (all-bytes a.space), omega (arith, ap length (all-bytes a.space)), refl)
 
-whole : (c : Start) → Typed c.args.space
-whole c = typed c.args.space _ c.well_formed.1.1.0
-
 -- a turn's place is one of a tuple held
 inside : (c : In-loop-i) → c.loop-i.i < capacity
 inside c = omega (arith, c.loop-i-test.true, formed-few c.args.space c.requires.dumpable.formed)
 
 pub offset_bounds-space-i : goal.offset_bounds-space-i
-offset_bounds-space-i c = omega (arith, inside c)
+offset_bounds-space-i c = omega (arith, inside (goal.at.offset_bounds-space-i c).In-loop-i)
 
 pub bounds-space-i : goal.bounds-space-i
-bounds-space-i c = inside c
+bounds-space-i c = inside (goal.at.bounds-space-i c).In-loop-i
 
 pub call_of-requires : goal.call_of-requires
 call_of-requires c = formed-sound c.args.space c.requires.dumpable.formed
@@ -45,18 +41,21 @@ left : (c : In-loop-i) → let space = c.args.space in
     (bytes_from space c.loop-i.i ≡ call_bytes (call_at space c.loop-i.i) ++ bytes_from space (c.loop-i.i + 1))
     × (length (bytes_from space c.loop-i.i) ≡ length (call_bytes (call_at space c.loop-i.i)) + length (bytes_from space (c.loop-i.i + 1)))
 left c =
-    (left-bytes c.args.space (whole c.before.before.before.before) c.requires.dumpable c.loop-i.i c.loop-i-test.true, left-length c.args.space (whole c.before.before.before.before) c.requires.dumpable c.loop-i.i c.loop-i-test.true)
+    (left-bytes c.args.space (typed c.args.space _ c.well_formed.1.1.0) c.requires.dumpable c.loop-i.i c.loop-i-test.true, left-length c.args.space (typed c.args.space _ c.well_formed.1.1.0) c.requires.dumpable c.loop-i.i c.loop-i-test.true)
 
 pub put_record-place-requires : goal.put_record-place-requires
 put_record-place-requires c =
-    let call = c.call_of.ensures in record { call_value = ap call_fault call ∙ call-faultless c.args.space (whole (goal.at.put_record-place-requires c).Start) c.requires.dumpable c.loop-i.i c.loop-i-test.true; call_in_bounds = omega (arith, ap (λ (call : Call). length (call_bytes call)) call, (left (goal.at.put_record-place-requires c).In-loop-i).1, c.loop-i.invariant.2, c.loop-i.invariant.3, c.requires.space_in_bounds) }
+    let call = c.call_of.ensures in record { call_value = ap call_fault call ∙ call-faultless c.args.space (typed c.args.space _ c.well_formed.1.1.0) c.requires.dumpable c.loop-i.i c.loop-i-test.true; call_in_bounds = omega (arith, ap (λ (call : Call). length (call_bytes call)) call, (left (goal.at.put_record-place-requires c).In-loop-i).1, c.loop-i.invariant.2, c.loop-i.invariant.3, c.requires.space_in_bounds) }
 
 pub overflow_add-i : goal.overflow_add-i
 overflow_add-i c = omega (arith, inside (goal.at.overflow_add-i c).In-loop-i)
 
 -- the record was written behind those before it
 wrote : (c : After-put_record-place) → Wrote c.loop-i.buffer c.loop-i.place (call_bytes (call_at c.args.space c.loop-i.i)) c.put_record-place.result c.put_record-place.new.buffer
-wrote c = rw c.call_of.ensures at (c.put_record-place.ensures.value, c.put_record-place.ensures.buffer_after)
+wrote c =
+    let made : Wrote c.loop-i.buffer c.loop-i.place (call_bytes c.call_of.result) c.put_record-place.result c.put_record-place.new.buffer =
+    (c.put_record-place.ensures.value, c.put_record-place.ensures.buffer_after) in
+    rw c.call_of.ensures at made
 
 pub loop-i-preserved : goal.loop-i-preserved
 loop-i-preserved c =

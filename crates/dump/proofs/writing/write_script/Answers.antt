@@ -21,7 +21,7 @@ formed : (c : Else-not-is_well_formed) → well_formed c.args.space ≡ true
 formed c = sym c.is_well_formed.ensures ∙ not-false _ c.if-not-is_well_formed.false-raw
 
 dumpable : (c : Else-not-is_reached) → Dumpable c.args.space
-dumpable c = record { formed = formed c.before.before; other = c.requires; reached = sym c.is_reached.ensures ∙ not-false _ c.if-not-is_reached.false-raw }
+dumpable c = record { formed = sym c.is_well_formed.ensures ∙ not-false _ c.if-not-is_well_formed.false-raw; other = c.requires; reached = sym c.is_reached.ensures ∙ not-false _ c.if-not-is_reached.false-raw }
 
 room : (c : Else-not-has_room) → let a = c.args in length (dump_bytes a.space) ≤ length a.buffer.now
 room c =
@@ -34,7 +34,7 @@ returns-then-not-is_well_formed c =
     let both = written-unsound a.space a.buffer.now (sym c.is_well_formed.ensures ∙ not-true _ c.if-not-is_well_formed.true-raw) in record { value = both.0; buffer_after = both.1 }
 
 pub is_reached-requires : goal.is_reached-requires
-is_reached-requires c = formed c
+is_reached-requires c = formed (goal.at.is_reached-requires c).Else-not-is_well_formed
 
 pub returns-then-not-is_reached : goal.returns-then-not-is_reached
 returns-then-not-is_reached c =
@@ -42,7 +42,7 @@ returns-then-not-is_reached c =
     let both = written-unreached a.space a.buffer.now (formed (goal.at.returns-then-not-is_reached c).Else-not-is_well_formed) c.requires (sym c.is_reached.ensures ∙ not-true _ c.if-not-is_reached.true-raw) in record { value = both.0; buffer_after = both.1 }
 
 pub has_room-requires : goal.has_room-requires
-has_room-requires c = dumpable c
+has_room-requires c = dumpable (goal.at.has_room-requires c).Else-not-is_reached
 
 pub returns-then-not-has_room : goal.returns-then-not-has_room
 returns-then-not-has_room c =
@@ -66,18 +66,23 @@ set-up c = (omega (arith, c.set_up_width.ensures), c.put_set_up.ensures)
 
 pub put_records-requires : goal.put_records-requires
 put_records-requires c =
-    let a = c.args in record { dumpable = dumpable (goal.at.put_records-requires c).Else-not-is_reached; space_in_bounds = omega (
+    let a = c.args in record {
+      dumpable = dumpable (goal.at.put_records-requires c).Else-not-is_reached;
+      space_in_bounds = omega (
         arith,
         room (goal.at.put_records-requires c).Else-not-has_room,
         dump-length a.space,
         c.set_up_width.ensures,
-        wrote-length a.buffer.now 0 (set_up_bytes a.space.config) (set-up c),
-      ) }
+        wrote-length a.buffer.now 0 (set_up_bytes a.space.config) (set-up (goal.at.put_records-requires c).After-set_up_width),
+      );
+    }
 
 pub returns : goal.returns
 unfolding dump_bytes
 returns c =
     let a = c.args in
     let whole = written-whole a.space a.buffer.now (dumpable (goal.at.returns c).Else-not-is_reached) (room (goal.at.returns c).Else-not-has_room) in
-    let wrote = wrote_then a.buffer.now 0 (set_up_bytes a.space.config) (records_bytes (dump_calls a.space)) (set-up (goal.at.returns c).After-set_up_width) (c.put_records.ensures.value, c.put_records.ensures.buffer_after) in
+    let records : Wrote c.put_set_up.new.buffer c.set_up_width.result (records_bytes (dump_calls a.space)) c.put_records.result c.put_records.new.buffer =
+    (c.put_records.ensures.value, c.put_records.ensures.buffer_after) in
+    let wrote = wrote_then a.buffer.now 0 (set_up_bytes a.space.config) (records_bytes (dump_calls a.space)) (set-up (goal.at.returns c).After-set_up_width) records in
     record { value = ap Length (omega (arith, wrote.0)) ∙ whole.0; buffer_after = wrote.1 ∙ whole.1 }

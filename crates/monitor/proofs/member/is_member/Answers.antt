@@ -5,15 +5,10 @@ use Prim.Native.Nat.{ℕ, ◌+◌, ◌-◌, ◌%◌, ◌/◌}
 use native.Mathlib.Omega.{arith}
 use lib.Dec.{eqb}
 use borrow.Author.Tests.{not-true, not-false}
-use Rattle.monitor.specs.Private.{is_it}
-use Rattle.space.specs.Members.{every}
 use Rattle.space.proofs.MemberSteps.{every-step, every-end, every-none}
+use Rattle.monitor.proofs.member.is_member.Invariants.{others}
 use Rattle.monitor.proofs.member.is_member.Goals.{In-loop-k}
 use Rattle.monitor.proofs.member.is_member.Goals as goal
-
--- every member from a place on is another
-abbrev others : ℕ → ℕ → ℕ → ℕ → Bool
-others process n k set = every (λ j. not (eqb j process)) n k set
 
 -- the lowest bit, and what is left behind it
 step : (c : In-loop-k) → let a = c.args in

@@ -1,0 +1,17 @@
+-- The text is no longer than the buffer that it is in.
+use Rattle.std.proofs.Common.{sym}
+use Rattle.std.proofs.lemmas.List.{length-take-le}
+use Rattle.script.proofs.RoomLaws.{printed-inside}
+use Rattle.scripts.proofs.show.text.Goals as goal
+
+pub slice_bounds-buffer-end : goal.slice_bounds-buffer-end
+slice_bounds-buffer-end g c =
+    let p = c.print-printed in
+    let l = c.in-Length in
+    printed-inside _ _ p.new.buffer p.result l.length p.ensures.value p.ensures.buffer_after l.is
+
+pub slice_bounds-write_all-end : goal.slice_bounds-write_all-end
+slice_bounds-write_all-end g c =
+    let p = c.print-printed in
+    let l = c.in-Length in
+    sym (length-take-le l.length p.new.buffer (printed-inside _ _ p.new.buffer p.result l.length p.ensures.value p.ensures.buffer_after l.is))

@@ -1,12 +1,11 @@
 // A call on a space: the refusals in their order, then what the call does.
-ghost use Rattle.std.specs.Prelude.{◌≡◌, true};
+ghost use Rattle.std.specs.Prelude.{◌≡◌};
 ghost use Rattle.calls.specs.Turns.{behind_stranger, first_refusal, judged, applied};
 ghost use Rattle.policy.specs.Policies.{list_verdict, verdict, lent_verdict};
-ghost use Rattle.space.specs.Spaces.{bounded};
 
 use crate::change::{Change, carry_out_unchecked};
 use crate::effect::{Effect, perform, refused};
-use policy::{Verdict, asks_tuples, lent_verdict, list_verdict};
+use policy::{Verdict, lent_verdict, list_verdict};
 use space::{Config, PLACES, Space, is_bounded};
 use tuple::{Call, Fault, Refusal, Reply};
 
@@ -54,13 +53,12 @@ pub fn judge_unchecked(space: Space, call: Call) -> Effect
 
 // The first refusal that a call meets, of 3 to 7, 12 and 13.
 fn first_refusal(space: Space, call: Call) -> Verdict
-    requires { bounded space ≡ true }
     ensures { result ≡ first_refusal space.config call (verdict space call) }
 {
     if let Fault::Present(refusal) = call.fault() {
         return Verdict::Refuse(refusal);
     }
-    if asks_tuples(space.config, call.code) {
+    if space.config.has_list() {
         return list_refusal(space, call);
     }
     lent_refusal(space.config, &space.table, call)

@@ -34,7 +34,7 @@ pub fn head(script: &[u8]) -> ReadConfig
     read
 }
 
-fn read_config(script: &[u8]) -> ReadConfig
+pub(crate) fn read_config(script: &[u8]) -> ReadConfig
     ensures { result ≡ config_of script.now }
 {
     let n = Cursor { at: 0 }.number(script);

@@ -19,10 +19,6 @@ pub returns-then-not-is_bounded : goal.returns-then-not-is_bounded
 unfolding judged bounded
 returns-then-not-is_bounded c = c.refused.ensures ∙ sym (rw (sym c.is_bounded.ensures ∙ not-true _ c.if-not-is_bounded.true-raw))
 
-pub first_refusal-first-requires : goal.first_refusal-first-requires
-unfolding bounded
-first_refusal-first-requires c = sym c.is_bounded.ensures ∙ not-false _ c.if-not-is_bounded.false-raw
-
 pub returns-in-Refuse : goal.returns-in-Refuse
 returns-in-Refuse c =
     let a = c.args in

@@ -3,7 +3,6 @@
 
 ghost use Rattle.std.specs.Io.{ReadsAtMost};
 
-use script::Printed;
 use std::io;
 use std::io::Read;
 
@@ -14,8 +13,7 @@ fn main(rt: HostRuntime) -> io::Result<()> {
     let mut input = [0u8; MOST];
     let n = read_full(&mut rt.reader(), &mut input)?;
     let mut text = script::blank();
-    let printed = script::print(&input[..n], &mut text);
-    if let Printed::Length(length) = printed {
+    if let Ok(length) = script::print(&input[..n], &mut text) {
         rt.write_all(&text[..length])?;
     }
     Ok(())
@@ -26,6 +24,7 @@ fn read_full(input: &mut impl Read, buffer: &mut [u8]) -> io::Result<usize>
     ensures { ReadsAtMost result buffer.new }
 {
     let mut done = 0;
+    // By hand: the library's `read_to_end` would put the input on the heap, and `.ci/stack` says how much memory the program needs.
     while done < buffer.len() {
         let n = input.read(&mut buffer[done..])?;
         if n == 0 {

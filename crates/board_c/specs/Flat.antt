@@ -1,5 +1,5 @@
 -- The numbers that cross to C in place of enums, and what each export answers: what the library's own definition answers, in those numbers.
-use Rattle.std.specs.Prelude.{ℕ, ◌+◌, Bool, true, cond, List, eqb, ℤ, pos}
+use Rattle.std.specs.Prelude.{ℕ, ◌+◌, Bool, true, cond, List, [], eqb, ℤ, pos, Err, Ok, None, Option, Result, Some}
 use Rattle.board_c.specs.declared.reply.FlatReply.{FlatReply}
 use Rattle.board_c.specs.declared.reply.FlatOpened.{FlatOpened}
 use Rattle.board_c.specs.declared.reply.FlatApplied.{FlatApplied}
@@ -9,37 +9,30 @@ use Rattle.board_c.specs.declared.state.FlatStep.{FlatStep}
 use Rattle.calls.specs.declared.turn.Applied.{Applied}
 use Rattle.calls.specs.Turns.{applied as call_applied}
 use Rattle.dump.specs.Dumps.{written_of as dump_written}
-use Rattle.monitor.specs.declared.stray.Stray.{Stray}
-use Rattle.monitor.specs.declared.stray.Stray.TheVariants as stray
+use Rattle.tuple.specs.declared.refusal.Refusal.{Refusal}
 use Rattle.monitor.specs.Strays.{stray_of}
 use Rattle.process.specs.declared.process.Next.{Next as Coming}
-use Rattle.process.specs.declared.process.Next.TheVariants.{Calls, Decides, Refuses}
+use Rattle.process.specs.declared.process.Next.TheVariants.{Calls, Decides}
 use Rattle.process.specs.declared.process.Phase.{Phase}
 use Rattle.process.specs.declared.process.Phase.TheVariants.{Proposing, Reading, Deciding, Decided}
 use Rattle.process.specs.declared.process.Process.{Process}
 use Rattle.process.specs.declared.process.Step.{Step}
 use Rattle.process.specs.Procedure.{started as process_started, resumed as process_resumed}
-use Rattle.record.specs.declared.reader.Next.{Next}
-use Rattle.record.specs.declared.reader.Next.TheVariants.{At, Refused as Unread}
+use Rattle.process.specs.States.{blank_process}
+use Rattle.record.specs.declared.reader.Cursor.{Cursor}
 use Rattle.record.specs.declared.reader.ReadCall.{ReadCall}
-use Rattle.record.specs.declared.writer.Recorded.{Recorded}
-use Rattle.record.specs.declared.writer.Recorded.TheVariants as recorded
-use Rattle.record.specs.Reading.{call_at}
+use Rattle.record.specs.Reading.{call_at, beside}
 use Rattle.record.specs.Writing.{written_of}
-use Rattle.script.specs.declared.run.Printed.{Printed}
-use Rattle.script.specs.declared.run.Printed.TheVariants as printed
 use Rattle.script.specs.Printing.{printed_of}
 use Rattle.space.specs.declared.config.Config.{Config}
-use Rattle.space.specs.declared.space.Opened.{Opened}
-use Rattle.space.specs.declared.space.Opening.{Opening}
-use Rattle.space.specs.declared.space.Opening.TheVariants.{Stands, Unopened}
 use Rattle.space.specs.declared.space.Space.{Space}
-use Rattle.space.specs.Spaces.{fresh_of}
+use Rattle.space.specs.Configs.{blank_config}
+use Rattle.space.specs.Spaces.{fresh_of, space_of}
 use Rattle.tuple.specs.declared.field.Call.{Call}
 use Rattle.tuple.specs.declared.offset.Offset.{Offset}
 use Rattle.tuple.specs.declared.offset.Offset.TheVariants.{Bottom, Hundredths}
 use Rattle.tuple.specs.declared.reply.Outcome.{Outcome}
-use Rattle.tuple.specs.declared.reply.Outcome.TheVariants.{Done, None, Found, Inserted, Held, Refused}
+use Rattle.tuple.specs.declared.reply.Outcome.TheVariants as outcome
 use Rattle.tuple.specs.declared.reply.Reply.{Reply}
 use Rattle.tuple.specs.Fields.{blank_call}
 use Rattle.tuple.specs.Refusals.{number_of, refusal}
@@ -49,79 +42,73 @@ use Rattle.tuple.specs.Refusals.{number_of, refusal}
 abbrev pub refused_base : ℕ
 refused_base = 4_294_967_296
 
-abbrev pub text_number : Printed → ℕ
-text_number (printed.Length n) = n
-text_number (printed.Unprinted why) = refused_base + number_of why
-
-abbrev pub recorded_number : Recorded → ℕ
-recorded_number (recorded.Length n) = n
-recorded_number (recorded.Unwritten why) = refused_base + number_of why
+abbrev pub length_number : Result ℕ Refusal → ℕ
+length_number (Ok n) = n
+length_number (Err why) = refused_base + number_of why
 
 -- the number of a record is below it
-abbrev pub stray_number : Stray → ℕ
-stray_number stray.Nobody = 0
-stray_number (stray.At number) = number
-stray_number (stray.Refused why) = refused_base + number_of why
+abbrev pub stray_number : Result (Option ℕ) Refusal → ℕ
+stray_number (Ok None) = 0
+stray_number (Ok (Some number)) = number
+stray_number (Err why) = refused_base + number_of why
 
 -- ---- replies
 
 abbrev pub outcome_number : Outcome → ℕ
-outcome_number Done = 0
-outcome_number None = 1
-outcome_number Found = 2
-outcome_number Inserted = 3
-outcome_number Held = 4
-outcome_number (Refused why) = 5
+outcome_number outcome.Done = 0
+outcome_number outcome.None = 1
+outcome_number outcome.Found = 2
+outcome_number outcome.Inserted = 3
+outcome_number outcome.Held = 4
+outcome_number (outcome.Refused why) = 5
 
 abbrev pub outcome_refusal : Outcome → ℕ
-outcome_refusal Done = 0
-outcome_refusal None = 0
-outcome_refusal Found = 0
-outcome_refusal Inserted = 0
-outcome_refusal Held = 0
-outcome_refusal (Refused why) = number_of why
+outcome_refusal outcome.Done = 0
+outcome_refusal outcome.None = 0
+outcome_refusal outcome.Found = 0
+outcome_refusal outcome.Inserted = 0
+outcome_refusal outcome.Held = 0
+outcome_refusal (outcome.Refused why) = number_of why
 
 abbrev pub flat_reply : Reply → FlatReply
 flat_reply reply = record { outcome = outcome_number reply.outcome; refusal = outcome_refusal reply.outcome; tuple = reply.tuple }
 
 -- what is no outcome's number is a refusal
 unfoldable pub plain_outcome : ℕ → Outcome
-plain_outcome outcome =
-    cond (eqb outcome 0) Done
-    (cond (eqb outcome 1) None
-    (cond (eqb outcome 2) Found
-    (cond (eqb outcome 3) Inserted
-    (cond (eqb outcome 4) Held
-    (Refused (refusal 11))))))
+plain_outcome number =
+    cond (eqb number 0) outcome.Done
+    (cond (eqb number 1) outcome.None
+    (cond (eqb number 2) outcome.Found
+    (cond (eqb number 3) outcome.Inserted
+    (cond (eqb number 4) outcome.Held
+    (outcome.Refused (refusal 11))))))
 
 -- and so is what has a refusal's number
 unfoldable pub outcome_of : ℕ → ℕ → Outcome
-outcome_of outcome why = cond (eqb why 0) (plain_outcome outcome) (Refused (refusal why))
+outcome_of number why = cond (eqb why 0) (plain_outcome number) (outcome.Refused (refusal why))
 
 abbrev pub reply_of : FlatReply → Reply
 reply_of reply = record { outcome = outcome_of reply.outcome reply.refusal; tuple = reply.tuple }
 
 -- ---- spaces
 
-abbrev pub opening_refusal : Opening → ℕ
-opening_refusal Stands = 0
-opening_refusal (Unopened why) = number_of why
-
-abbrev pub flat_opened : Opened → FlatOpened
-flat_opened opened = record { refusal = opening_refusal opened.opening; space = opened.space }
+-- beside a refusal the space is blank
+abbrev pub flat_opened : Result Space Refusal → FlatOpened
+flat_opened (Ok space) = record { refusal = 0; space = space }
+flat_opened (Err why) = record { refusal = number_of why; space = space_of blank_config [] }
 
 abbrev pub flat_applied : Applied → FlatApplied
 flat_applied applied = record { reply = flat_reply applied.reply; space = applied.space }
 
 -- ---- reading
 
-abbrev pub next_refusal : Next → ℕ
-next_refusal (At cursor) = 0
-next_refusal (Unread why) = number_of why
+abbrev pub next_refusal : Result Cursor Refusal → ℕ
+next_refusal (Ok cursor) = 0
+next_refusal (Err why) = number_of why
 
-abbrev pub next_place : Next → ℕ
-next_place (At cursor) = cursor.at
-next_place (Unread why) = 0
+abbrev pub next_place : Result Cursor Refusal → ℕ
+next_place (Ok cursor) = cursor.at
+next_place (Err why) = 0
 
 abbrev pub flat_read : ReadCall → FlatRead
 flat_read read = record { refusal = next_refusal read.next; next = next_place read.next; call = read.call }
@@ -179,14 +166,8 @@ process_of process =
 -- ---- steps
 
 abbrev pub next_number : Coming → ℕ
-next_number Calls = 0
+next_number (Calls call) = 0
 next_number (Decides offset) = 1
-next_number (Refuses why) = 2
-
-abbrev pub refusal_of : Coming → ℕ
-refusal_of Calls = 0
-refusal_of (Decides offset) = 0
-refusal_of (Refuses why) = number_of why
 
 -- the decision's offset: a flag for bottom, and hundredths
 abbrev pub bottom_flag : Offset → ℕ
@@ -198,29 +179,38 @@ hundredths Bottom = pos 0
 hundredths (Hundredths z) = z
 
 abbrev pub bottom_of : Coming → ℕ
-bottom_of Calls = 0
+bottom_of (Calls call) = 0
 bottom_of (Decides offset) = bottom_flag offset
-bottom_of (Refuses why) = 0
 
 abbrev pub hundredths_of : Coming → ℤ
-hundredths_of Calls = pos 0
+hundredths_of (Calls call) = pos 0
 hundredths_of (Decides offset) = hundredths offset
-hundredths_of (Refuses why) = pos 0
 
-abbrev pub flat_step : Step → FlatStep
-flat_step step =
+-- beside a decision the call is blank
+abbrev pub coming_call : Coming → Call
+coming_call (Calls call) = call
+coming_call (Decides offset) = blank_call
+
+-- a refusal's number, beside a state and a blank call
+abbrev pub refused_step : FlatProcess → ℕ → FlatStep
+refused_step process why = record { next = 2; refusal = why; bottom = 0; hundredths = pos 0; process = process; call = blank_call }
+
+-- a refusal stands beside the state given
+abbrev pub flat_step : FlatProcess → Result Step Refusal → FlatStep
+flat_step beside (Ok step) =
     record {
       next = next_number step.next;
-      refusal = refusal_of step.next;
+      refusal = 0;
       bottom = bottom_of step.next;
       hundredths = hundredths_of step.next;
       process = flat_process step.process;
-      call = step.call;
+      call = coming_call step.next;
     }
+flat_step beside (Err why) = refused_step beside (number_of why)
 
 -- refusal 1, beside the state handed in
 abbrev pub unknown_state : FlatProcess → FlatStep
-unknown_state process = record { next = 2; refusal = 1; bottom = 0; hundredths = pos 0; process = process; call = blank_call }
+unknown_state process = refused_step process 1
 
 unfoldable pub flagged_offset : ℕ → ℤ → Offset
 flagged_offset bottom z = cond (eqb bottom 0) (Hundredths z) Bottom
@@ -228,7 +218,7 @@ flagged_offset bottom z = cond (eqb bottom 0) (Hundredths z) Bottom
 -- ---- what the exports answer
 
 abbrev pub scripted : List ℕ → ℕ → ℕ
-scripted s room = text_number (printed_of s room)
+scripted s room = length_number (printed_of s room)
 
 abbrev pub opened : Config → FlatOpened
 opened config = flat_opened (fresh_of config)
@@ -236,21 +226,23 @@ opened config = flat_opened (fresh_of config)
 abbrev pub applied : Space → Call → FlatApplied
 applied space call = flat_applied (call_applied space call)
 
+-- beside a refused start the state is blank
 abbrev pub started : Config → ℕ → ℕ → ℕ → ℤ → FlatStep
-started config process round bottom z = flat_step (process_started config process round (flagged_offset bottom z))
+started config process round bottom z = flat_step (flat_process blank_process) (process_started config process round (flagged_offset bottom z))
 
+-- and beside a refused reply it is the one handed in
 abbrev pub resumed : FlatProcess → FlatReply → FlatStep
 resumed process reply =
-    cond (is_phase process.phase process.value) (flat_step (process_resumed (process_of process) (reply_of reply))) (unknown_state process)
+    cond (is_phase process.phase process.value) (flat_step process (process_resumed (process_of process) (reply_of reply))) (unknown_state process)
 
 abbrev pub read_at : List ℕ → ℕ → FlatRead
-read_at s at = flat_read (call_at s at)
+read_at s at = flat_read (beside (call_at s at))
 
 abbrev pub written : Call → ℕ → ℕ
-written call room = recorded_number (written_of call room)
+written call room = length_number (written_of call room)
 
 abbrev pub dumped : Space → ℕ → ℕ
-dumped space room = recorded_number (dump_written space room)
+dumped space room = length_number (dump_written space room)
 
 abbrev pub strayed : List ℕ → ℕ → ℕ
 strayed s set = stray_number (stray_of s set)

@@ -12,14 +12,14 @@ mod number;
 mod reply;
 mod state;
 
-use crate::number::{recorded_number, stray_number, text_number};
-use crate::reply::{flat_applied, flat_opened, flat_read, reply_of};
-use crate::state::{flat_step, is_phase, offset_of, process_of, unknown_state};
+use crate::number::{length_number, stray_number};
+use crate::state::{offset_of, process_of};
+use process::Process;
 use record::Cursor;
 pub use reply::{FlatApplied, FlatOpened, FlatRead, FlatReply};
 use space::{Config, Space};
 pub use state::{FlatProcess, FlatStep};
-use tuple::Call;
+use tuple::{Call, Refusal, Reply};
 
 // Runs a script and puts its text at the start of buffer: the text's length, or 2^32 and the refusal's number.
 #[unsafe(no_mangle)]
@@ -27,7 +27,7 @@ pub extern "C" fn board_script(bytes: &[u8], buffer: &mut [u8]) -> u64
     ensures value { result ≡ scripted bytes.now (length buffer.old) }
     ensures buffer_after { buffer.new ≡ text_left bytes.now buffer.old }
 {
-    text_number(script::print(bytes, buffer))
+    length_number(script::print(bytes, buffer))
 }
 
 // A fresh space, or refusal 1 beside the blank one.
@@ -35,7 +35,7 @@ pub extern "C" fn board_script(bytes: &[u8], buffer: &mut [u8]) -> u64
 pub extern "C" fn board_fresh(config: Config) -> FlatOpened
     ensures { result ≡ opened config }
 {
-    flat_opened(space::fresh(config))
+    FlatOpened::from(space::fresh(config))
 }
 
 // A call on a space: the reply, and the space afterwards.
@@ -43,7 +43,7 @@ pub extern "C" fn board_fresh(config: Config) -> FlatOpened
 pub extern "C" fn board_apply(space: Space, call: Call) -> FlatApplied
     ensures { result ≡ applied· space call }
 {
-    flat_applied(calls::apply(space, call))
+    FlatApplied::from(calls::apply(space, call))
 }
 
 // Starts a process in a round with its proposal: bottom if the flag is not 0.
@@ -57,7 +57,8 @@ pub extern "C" fn board_start(
 ) -> FlatStep
     ensures { result ≡ started· config process round bottom hundredths }
 {
-    flat_step(process::start(config, process, round, offset_of(bottom, hundredths)))
+    let step = process::start(config, process, round, offset_of(bottom, hundredths));
+    FlatStep::new(FlatProcess::from(Process::blank()), step)
 }
 
 // Hands a process a reply. A phase that is none, or a value beside a phase that has none, is refused 1.
@@ -65,10 +66,9 @@ pub extern "C" fn board_start(
 pub extern "C" fn board_resume(process: FlatProcess, reply: FlatReply) -> FlatStep
     ensures { result ≡ resumed· process reply }
 {
-    if is_phase(process.phase, process.value) {
-        flat_step(process::resume(process_of(process), reply_of(reply)))
-    } else {
-        unknown_state(process)
+    match process_of(process) {
+        Some(known) => FlatStep::new(process, process::resume(known, Reply::from(reply))),
+        None => FlatStep::refused(process, Refusal::Unsound),
     }
 }
 
@@ -77,7 +77,7 @@ pub extern "C" fn board_resume(process: FlatProcess, reply: FlatReply) -> FlatSt
 pub extern "C" fn board_read(bytes: &[u8], at: usize) -> FlatRead
     ensures { result ≡ read_at bytes.now at }
 {
-    flat_read(Cursor { at }.call(bytes))
+    FlatRead::from(Cursor { at }.call(bytes))
 }
 
 // Puts the record of a call at the start of buffer: the record's length, or 2^32 and the refusal's number.
@@ -86,7 +86,7 @@ pub extern "C" fn board_write(call: Call, buffer: &mut [u8]) -> u64
     ensures value { result ≡ written call (length buffer.old) }
     ensures buffer_after { buffer.new ≡ record_left call buffer.old }
 {
-    recorded_number(record::write(call, buffer))
+    length_number(record::write(call, buffer))
 }
 
 // Puts a script whose run ends in the space at the start of buffer: the script's length, at most 17,667, or 2^32 and the refusal's number: 1 for a
@@ -96,7 +96,7 @@ pub extern "C" fn board_dump(space: Space, buffer: &mut [u8]) -> u64
     ensures value { result ≡ dumped space (length buffer.old) }
     ensures buffer_after { buffer.new ≡ dump_left space buffer.old }
 {
-    recorded_number(dump::write(space, buffer))
+    length_number(dump::write(space, buffer))
 }
 
 // The first record of a script in which one of a set of processes strays from the procedure: its number, 0 if all of them follow, or 2^32 and the refusal's

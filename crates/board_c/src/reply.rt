@@ -1,12 +1,11 @@
 // Replies, and what opening a space, a call on it and reading a record answer, with numbers in place of enums.
 ghost use Rattle.std.specs.Prelude.{◌≡◌};
-ghost use Rattle.board_c.specs.Flat.{outcome_number, outcome_refusal, flat_reply, flat_opened, flat_applied, flat_read, next_refusal, next_place, opening_refusal, plain_outcome, outcome_of, reply_of};
+ghost use Rattle.board_c.specs.Flat.{flat_reply, flat_opened, flat_applied, flat_read, reply_of};
 ghost use Rattle.tuple.specs.Refusals.{refusal as refusal·};
 
-use crate::number::wide;
 use calls::Applied;
-use record::{Next, ReadCall};
-use space::{Opened, Opening, Space};
+use record::ReadCall;
+use space::{Config, Space};
 use tuple::{Call, Outcome, Refusal, Reply, Tuple};
 
 // A reply: the outcome's number (0 done, 1 none, 2 found, 3 inserted, 4 held, 5 refused), the refusal's number, 0 where there is none,
@@ -44,139 +43,89 @@ pub struct FlatRead {
     pub call: Call,
 }
 
-pub(crate) fn flat_opened(opened: Opened) -> FlatOpened
-    ensures { result ≡ flat_opened opened }
-{
-    let opening = opened.opening;
-    let space = opened.space;
-    FlatOpened {
-        refusal: opening_refusal(opening),
-        space,
+impl From<Result<Space, Refusal>> for FlatOpened {
+    ghost from_gives = { λ opened flat. flat ≡ flat_opened opened };
+
+    fn from(opened: Result<Space, Refusal>) -> FlatOpened {
+        match opened {
+            Ok(space) => FlatOpened { refusal: 0, space },
+            Err(refusal) => FlatOpened {
+                refusal: u64::from(refusal.number()),
+                space: Space::empty(Config::blank()),
+            },
+        }
     }
 }
 
-fn opening_refusal(opening: Opening) -> u64
-    ensures { result ≡ opening_refusal opening }
-{
-    match opening {
-        Opening::Stands => 0,
-        Opening::Unopened(refusal) => wide(refusal.number()),
+impl From<Applied> for FlatApplied {
+    ghost from_gives = { λ applied flat. flat ≡ flat_applied applied };
+
+    fn from(applied: Applied) -> FlatApplied {
+        FlatApplied {
+            reply: FlatReply::from(applied.reply),
+            space: applied.space,
+        }
     }
 }
 
-pub(crate) fn flat_applied(applied: Applied) -> FlatApplied
-    ensures { result ≡ flat_applied applied }
-{
-    let reply = applied.reply;
-    let space = applied.space;
-    FlatApplied {
-        reply: flat_reply(reply),
-        space,
+impl From<Reply> for FlatReply {
+    ghost from_gives = { λ reply flat. flat ≡ flat_reply reply };
+
+    fn from(reply: Reply) -> FlatReply {
+        let (outcome, refusal) = match reply.outcome {
+            Outcome::Done => (0, 0),
+            Outcome::None => (1, 0),
+            Outcome::Found => (2, 0),
+            Outcome::Inserted => (3, 0),
+            Outcome::Held => (4, 0),
+            Outcome::Refused(refusal) => (5, refusal.number()),
+        };
+        FlatReply {
+            outcome,
+            refusal,
+            tuple: reply.tuple,
+        }
     }
 }
 
-fn flat_reply(reply: Reply) -> FlatReply
-    ensures { result ≡ flat_reply reply }
-{
-    let outcome = reply.outcome;
-    let tuple = reply.tuple;
-    FlatReply {
-        outcome: outcome_number(outcome),
-        refusal: outcome_refusal(outcome),
-        tuple,
-    }
-}
+impl From<ReadCall> for FlatRead {
+    ghost from_gives = { λ read flat. flat ≡ flat_read read };
 
-fn outcome_number(outcome: Outcome) -> u32
-    ensures { result ≡ outcome_number outcome }
-{
-    match outcome {
-        Outcome::Done => 0,
-        Outcome::None => 1,
-        Outcome::Found => 2,
-        Outcome::Inserted => 3,
-        Outcome::Held => 4,
-        Outcome::Refused(_) => 5,
-    }
-}
-
-fn outcome_refusal(outcome: Outcome) -> u32
-    ensures { result ≡ outcome_refusal outcome }
-{
-    match outcome {
-        Outcome::Done => 0,
-        Outcome::None => 0,
-        Outcome::Found => 0,
-        Outcome::Inserted => 0,
-        Outcome::Held => 0,
-        Outcome::Refused(refusal) => refusal.number(),
-    }
-}
-
-pub(crate) fn flat_read(read: ReadCall) -> FlatRead
-    ensures { result ≡ flat_read read }
-{
-    let next = read.next;
-    let call = read.call;
-    FlatRead {
-        refusal: next_refusal(next),
-        next: next_place(next),
-        call,
-    }
-}
-
-fn next_refusal(next: Next) -> u64
-    ensures { result ≡ next_refusal next }
-{
-    match next {
-        Next::At(_) => 0,
-        Next::Refused(refusal) => wide(refusal.number()),
-    }
-}
-
-fn next_place(next: Next) -> usize
-    ensures { result ≡ next_place next }
-{
-    match next {
-        Next::At(cursor) => cursor.at,
-        Next::Refused(_) => 0,
+    fn from(read: ReadCall) -> FlatRead {
+        let (refusal, next) = match read.next {
+            Ok(cursor) => (0, cursor.at),
+            Err(refusal) => (u64::from(refusal.number()), 0),
+        };
+        FlatRead {
+            refusal,
+            next,
+            call: read.call,
+        }
     }
 }
 
 // ---- a reply that is handed in
 
-pub(crate) fn reply_of(reply: FlatReply) -> Reply
-    ensures { result ≡ reply_of reply }
-{
-    let tuple = reply.tuple;
-    Reply {
-        outcome: outcome_of(reply.outcome, reply.refusal),
-        tuple,
-    }
-}
+impl From<FlatReply> for Reply {
+    ghost from_gives = { λ flat reply. reply ≡ reply_of flat };
 
-// An outcome's number beside a refusal's. What has a refusal's number is a refusal.
-fn outcome_of(outcome: u32, refusal: u32) -> Outcome
-    ensures { result ≡ outcome_of outcome refusal }
-{
-    if refusal == 0 {
-        plain_outcome(outcome)
-    } else {
-        Outcome::Refused(refusal_of(refusal))
-    }
-}
-
-// What is no outcome's number is a refusal too, which fits nowhere.
-fn plain_outcome(outcome: u32) -> Outcome
-    ensures { result ≡ plain_outcome outcome }
-{
-    match outcome {
-        0 => Outcome::Done,
-        1 => Outcome::None,
-        2 => Outcome::Found,
-        3 => Outcome::Inserted,
-        4 => Outcome::Held,
-        _ => Outcome::Refused(Refusal::Unfit),
+    #[tactic(auto, unfolding(crate::specs::Flat::outcome_of, crate::specs::Flat::plain_outcome))]
+    fn from(flat: FlatReply) -> Reply {
+        let outcome = match (flat.refusal, flat.outcome) {
+            (0, 0) => Outcome::Done,
+            (0, 1) => Outcome::None,
+            (0, 2) => Outcome::Found,
+            (0, 3) => Outcome::Inserted,
+            (0, 4) => Outcome::Held,
+            // What is no outcome's number is a refusal, which fits nowhere,
+            (0, _) => Outcome::Refused(Refusal::Unfit),
+            // and what has a refusal's number is that refusal.
+            (number, _) => Outcome::Refused(refusal_of(number)),
+        };
+        Reply {
+            outcome,
+            tuple: flat.tuple,
+        }
     }
 }
 

@@ -1,6 +1,7 @@
 // A process's state, and what starting it and handing it a reply give, with numbers in place of enums.
-ghost use Rattle.std.specs.Prelude.{◌≡◌};
-ghost use Rattle.board_c.specs.Flat.{phase_number, phase_value, next_number, refusal_of, bottom_flag, hundredths as hundredths·, bottom_of, hundredths_of, flat_process, flat_step, is_phase, phase_of, process_of, flagged_offset, unknown_state};
+ghost use Rattle.std.specs.Prelude.{◌≡◌, cond, Some, None};
+ghost use Rattle.board_c.specs.Flat.{flat_process, flat_step, refused_step, is_phase, phase_of as phase_of·, process_of as process_of·, flagged_offset};
+ghost use Rattle.tuple.specs.Refusals.{number_of};
 
 use process::{Next, Phase, Process, Step};
 use space::{Config, PROCESSES};
@@ -32,158 +33,98 @@ pub struct FlatStep {
     pub call: Call,
 }
 
-pub(crate) fn flat_step(step: Step) -> FlatStep
-    ensures { result ≡ flat_step step }
-{
-    let next = step.next;
-    let process = step.process;
-    let call = step.call;
-    FlatStep {
-        next: next_number(next),
-        refusal: refusal_of(next),
-        bottom: bottom_of(next),
-        hundredths: hundredths_of(next),
-        process: flat_process(process),
-        call,
+impl FlatStep {
+    // What starting a process or handing it a reply gives; a refusal stands beside the state given.
+    pub(crate) fn new(beside: FlatProcess, step: Result<Step, Refusal>) -> Self
+        ensures { result ≡ flat_step beside step }
+    {
+        let step = match step {
+            Ok(step) => step,
+            Err(refusal) => return FlatStep::refused(beside, refusal),
+        };
+        let (next, bottom, hundredths, call) = match step.next {
+            Next::Calls(call) => (0, 0, 0, call),
+            Next::Decides(Offset::Bottom) => (1, 1, 0, Call::blank()),
+            Next::Decides(Offset::Hundredths(z)) => (1, 0, z, Call::blank()),
+        };
+        FlatStep {
+            next,
+            refusal: 0,
+            bottom,
+            hundredths,
+            process: FlatProcess::from(step.process),
+            call,
+        }
+    }
+
+    // A refusal, beside a state.
+    pub(crate) fn refused(process: FlatProcess, refusal: Refusal) -> Self
+        ensures { result ≡ refused_step process (number_of refusal) }
+    {
+        FlatStep {
+            next: 2,
+            refusal: refusal.number(),
+            bottom: 0,
+            hundredths: 0,
+            process,
+            call: Call::blank(),
+        }
     }
 }
 
-fn next_number(next: Next) -> u32
-    ensures { result ≡ next_number next }
-{
-    match next {
-        Next::Calls => 0,
-        Next::Decides(_) => 1,
-        Next::Refuses(_) => 2,
-    }
-}
+impl From<Process> for FlatProcess {
+    ghost from_gives = { λ process flat. flat ≡ flat_process process };
 
-fn refusal_of(next: Next) -> u32
-    ensures { result ≡ refusal_of next }
-{
-    match next {
-        Next::Calls => 0,
-        Next::Decides(_) => 0,
-        Next::Refuses(refusal) => refusal.number(),
-    }
-}
-
-fn bottom_of(next: Next) -> u32
-    ensures { result ≡ bottom_of next }
-{
-    match next {
-        Next::Calls => 0,
-        Next::Decides(offset) => bottom_flag(offset),
-        Next::Refuses(_) => 0,
-    }
-}
-
-fn hundredths_of(next: Next) -> i32
-    ensures { result ≡ hundredths_of next }
-{
-    match next {
-        Next::Calls => 0,
-        Next::Decides(offset) => hundredths(offset),
-        Next::Refuses(_) => 0,
-    }
-}
-
-fn bottom_flag(offset: Offset) -> u32
-    ensures { result ≡ bottom_flag offset }
-{
-    match offset {
-        Offset::Bottom => 1,
-        Offset::Hundredths(_) => 0,
-    }
-}
-
-fn hundredths(offset: Offset) -> i32
-    ensures { result ≡ hundredths· offset }
-{
-    match offset {
-        Offset::Bottom => 0,
-        Offset::Hundredths(z) => z,
-    }
-}
-
-fn flat_process(process: Process) -> FlatProcess
-    ensures { result ≡ flat_process process }
-{
-    let config = process.config;
-    let phase = process.phase;
-    let found = process.found;
-    FlatProcess {
-        config,
-        process: process.process,
-        phase: phase_number(phase),
-        round: process.round,
-        value: phase_value(phase),
-        found,
-    }
-}
-
-fn phase_number(phase: Phase) -> u32
-    ensures { result ≡ phase_number phase }
-{
-    match phase {
-        Phase::Proposing => 0,
-        Phase::Reading(_) => 1,
-        Phase::Deciding => 2,
-        Phase::Decided(_) => 3,
-    }
-}
-
-fn phase_value(phase: Phase) -> u64
-    ensures { result ≡ phase_value phase }
-{
-    match phase {
-        Phase::Proposing => 0,
-        Phase::Reading(asked) => asked,
-        Phase::Deciding => 0,
-        Phase::Decided(code) => code,
+    fn from(process: Process) -> FlatProcess {
+        let (phase, value) = match process.phase {
+            Phase::Proposing => (0, 0),
+            Phase::Reading(asked) => (1, asked),
+            Phase::Deciding => (2, 0),
+            Phase::Decided(code) => (3, code),
+        };
+        let found = process.found;
+        FlatProcess {
+            config: process.config,
+            process: process.process,
+            phase,
+            round: process.round,
+            value,
+            found,
+        }
     }
 }
 
 // ---- a state or an offset that is handed in
 
-// Whether a number is a phase's, and the value beside it 0 where the phase has none.
-pub(crate) fn is_phase(phase: u32, value: u64) -> bool
-    ensures { result ≡ is_phase phase value }
+// The phase of a number and the value beside it, which is 0 where the phase has none.
+#[tactic(auto, unfolding(crate::specs::Flat::is_phase, crate::specs::Flat::phase_of))]
+fn phase_of(phase: u32, value: u64) -> Option<Phase>
+    ensures { result ≡ cond (is_phase phase value) (Some (phase_of· phase value)) None }
 {
-    match phase {
-        0 => value == 0,
-        1 => true,
-        2 => value == 0,
-        3 => true,
-        _ => false,
+    match (phase, value) {
+        (0, 0) => Some(Phase::Proposing),
+        (1, asked) => Some(Phase::Reading(asked)),
+        (2, 0) => Some(Phase::Deciding),
+        (3, code) => Some(Phase::Decided(code)),
+        _ => None,
     }
 }
 
-fn phase_of(phase: u32, value: u64) -> Phase
-    ensures { result ≡ phase_of phase value }
+pub(crate) fn process_of(flat: FlatProcess) -> Option<Process>
+    ensures { result ≡ cond (is_phase flat.phase flat.value) (Some (process_of· flat)) None }
 {
-    match phase {
-        0 => Phase::Proposing,
-        1 => Phase::Reading(value),
-        2 => Phase::Deciding,
-        _ => Phase::Decided(value),
-    }
-}
-
-pub(crate) fn process_of(process: FlatProcess) -> Process
-    ensures { result ≡ process_of process }
-{
-    let config = process.config;
-    let found = process.found;
-    Process {
-        config,
-        process: process.process,
-        round: process.round,
-        phase: phase_of(process.phase, process.value),
+    let phase = phase_of(flat.phase, flat.value)?;
+    let found = flat.found;
+    Some(Process {
+        config: flat.config,
+        process: flat.process,
+        round: flat.round,
+        phase,
         found,
-    }
+    })
 }
 
+#[tactic(auto, unfolding(crate::specs::Flat::flagged_offset))]
 pub(crate) fn offset_of(bottom: u32, hundredths: i32) -> Offset
     ensures { result ≡ flagged_offset bottom hundredths }
 {
@@ -191,19 +132,5 @@ pub(crate) fn offset_of(bottom: u32, hundredths: i32) -> Offset
         Offset::Hundredths(hundredths)
     } else {
         Offset::Bottom
-    }
-}
-
-// Refusal 1, beside the state handed in.
-pub(crate) fn unknown_state(process: FlatProcess) -> FlatStep
-    ensures { result ≡ unknown_state process }
-{
-    FlatStep {
-        next: 2,
-        refusal: Refusal::Unsound.number(),
-        bottom: 0,
-        hundredths: 0,
-        process,
-        call: Call::blank(),
     }
 }

@@ -16,7 +16,7 @@ use Rattle.calls.specs.Turns.{applied}
 use Rattle.calls.proofs.CallSteps.{Steps, steps}
 use Rattle.calls.proofs.ListSteps.{Kind, Shared, shared-few, four-other}
 use Rattle.calls.proofs.ObeyedLaws.{obeyed-rules}
-use Rattle.policy.specs.declared.verdicts.Verdict.TheVariants.{Permit}
+use Rattle.std.specs.Prelude.{None, Ok, Option, Some}
 use Rattle.policy.specs.Laws.{OwnAnnouncement, TakesOff}
 use Rattle.policy.specs.Policies.{verdict_on}
 use Rattle.policy.proofs.AnnouncingLaws.{lists-five, announce-rule, take-off-rule}
@@ -33,8 +33,6 @@ use Rattle.space.proofs.SpaceRules.{held_of, stands}
 use Rattle.tuple.specs.declared.field.Field.{Field}
 use Rattle.tuple.specs.declared.field.Tuple.{Tuple}
 use Rattle.tuple.specs.declared.field.Call.{Call}
-use Rattle.tuple.specs.declared.matching.Found as finding
-use Rattle.tuple.specs.declared.matching.Found.TheVariants.{At, Nowhere}
 use Rattle.tuple.specs.declared.refusal.Refusal.{Refusal}
 use Rattle.tuple.specs.declared.reply.Outcome.TheVariants.{Done, Found, Refused}
 use Rattle.tuple.specs.declared.reply.Reply.{Reply}
@@ -102,7 +100,7 @@ module _ (config : Config) (safe : sound config ≡ true) (five : config.policy 
       let does = obeyed-rules space call asked in
       let tidy : space_of config (held space) ≡ space = ap (space_of config) same in
       let more : space_of config (held space ++ (call.entry ∷ [])) ≡ space_of config (tuples ++ (call.entry ∷ [])) = ap (λ (l : List Tuple). space_of config (l ++ (call.entry ∷ []))) same in
-      let permitted : verdict_on config tuples call ≡ Permit = rw same at asked.permitted in
+      let permitted : verdict_on config tuples call ≡ (Ok tt) = rw same at asked.permitted in
       let room : length (held space) < capacity = rw same (shared-few safe keeps) in
       let passed = call-sound call asked.sound in
       let template = call.template in
@@ -137,10 +135,10 @@ module _ (config : Config) (safe : sound config ≡ true) (five : config.policy 
       (λ at. let a = does.cas-inserted code at room in
       lists code ((cas-permitted config tuples call shares code).0 permitted).0.entry (a.leaves tidy ∙ more)))))
     where
-      elim-found : (found : finding.Found) → oldest_of (held space) call.template ≡ found → ((i : ℕ) → oldest_of (held space) call.template ≡ At i → Does config tuples call)
-          → (oldest_of (held space) call.template ≡ Nowhere → Does config tuples call) → Does config tuples call
-      elim-found (At i) e here nowhere = here i e
-      elim-found Nowhere e here nowhere = nowhere e
+      elim-found : (found : Option ℕ) → oldest_of (held space) call.template ≡ found → ((i : ℕ) → oldest_of (held space) call.template ≡ Some i → Does config tuples call)
+          → (oldest_of (held space) call.template ≡ None → Does config tuples call) → Does config tuples call
+      elim-found (Some i) e here nowhere = here i e
+      elim-found None e here nowhere = nowhere e
 
   by-steps : {done : Applied} → applied space call ≡ done → Steps space call done → Does config tuples call
   unfolding carried_out

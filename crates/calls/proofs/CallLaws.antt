@@ -15,7 +15,7 @@ use Rattle.calls.specs.Turns.{first_refusal, searched, carried_by, applied}
 use Rattle.calls.proofs.CallSteps.{Puts, Moves, moves, denial-late, denial-never, Steps, steps}
 use Rattle.calls.proofs.RunSteps.{next, run-tidy, run-formed}
 use Rattle.policy.specs.Laws.{Denial}
-use Rattle.policy.specs.declared.verdicts.Verdict.TheVariants.{Permit}
+use Rattle.std.specs.Prelude.{Ok}
 use Rattle.policy.specs.Policies.{verdict_on}
 use Rattle.space.specs.declared.space.Space.{Space}
 use Rattle.space.specs.Configs.{known}
@@ -23,7 +23,6 @@ use Rattle.space.specs.Spaces.{held, well_formed}
 use Rattle.space.proofs.SpaceRules.{formed-sound, held-lawful}
 use Rattle.tuple.specs.declared.field.Tuple.{Tuple}
 use Rattle.tuple.specs.declared.field.Call.{Call}
-use Rattle.tuple.specs.declared.fault.Fault.TheVariants.{Absent}
 use Rattle.tuple.specs.declared.refusal.Refusal.{Refusal}
 use Rattle.tuple.specs.declared.reply.Outcome.{Outcome}
 use Rattle.tuple.specs.declared.reply.Outcome.TheVariants.{Refused}
@@ -43,10 +42,10 @@ moves-refused why (Moves.takes i e at inside) r = (cc, cc)
 
 module _ (space : Space) (call : Call) where
   steps-denied : {after : Applied} (why : Refusal) → Denial why → Steps space call after → after.reply.outcome ≡ Refused why → Denied why space call
-  steps-denied why denial (Steps.refuses other low) r = let same : other ≡ why = cc in absurd (omega (arith, low, ap number_of same, denial-late denial))
-  steps-denied why denial (Steps.denies {why = other} d) r = let same : other ≡ why = cc in subst (λ (w : Refusal). Denied w space call) same d
-  steps-denied why denial (Steps.obeys formed sound known p) r =
-      absurd (denial-never denial (ap number_of (moves-refused why (moves (held space) call sound) r).0))
+  steps-denied why cause (Steps.refuses other low) r = let same : other ≡ why = cc in absurd (omega (arith, low, ap number_of same, denial-late cause))
+  steps-denied why cause (Steps.denies {why = other} d) r = let same : other ≡ why = cc in subst (λ (w : Refusal). Denied w space call) same d
+  steps-denied why cause (Steps.obeys formed sound known p) r =
+      absurd (denial-never cause (ap number_of (moves-refused why (moves (held space) call sound) r).0))
 
   steps-unchanged : {after : Applied} (why : Refusal) → Steps space call after → after.reply.outcome ≡ Refused why → after.space ≡ space
   unfolding carried_out
@@ -73,8 +72,8 @@ kept space call tidy formed =
 -- ---- a call that is permitted
 
 -- a call without fault by one of 1 to n that is permitted on a well-formed space does what it does to the tuples
-pub permitted-applied : (space : Space) (call : Call) → well_formed space ≡ true → call_fault call ≡ Absent → (1 ≤ call.process) × (call.process ≤ space.config.n)
-    → verdict_on space.config (held space) call ≡ Permit → applied space call ≡ carried_by space call (effect (held space) call)
+pub permitted-applied : (space : Space) (call : Call) → well_formed space ≡ true → call_fault call ≡ Ok tt → (1 ≤ call.process) × (call.process ≤ space.config.n)
+    → verdict_on space.config (held space) call ≡ Ok tt → applied space call ≡ carried_by space call (effect (held space) call)
 unfolding applied searched first_refusal known
 permitted-applied space call formed faultless member permitted =
     rw (formed, faultless, le-leb 1 call.process member.0, le-leb call.process space.config.n member.1, permitted)

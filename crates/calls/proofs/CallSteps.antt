@@ -20,7 +20,8 @@ use Rattle.calls.specs.Laws.{Denied}
 use Rattle.calls.specs.Turns.{behind_fault, first_refusal, judged_by, searched, carried_by, applied}
 use Rattle.calls.proofs.ChangeLaws.{carried-rules}
 use Rattle.calls.proofs.TabledSteps.{taken-bare, put-fits, tabled-more, tabled-bare}
-use Rattle.policy.specs.declared.verdicts.Verdict.TheVariants.{Permit}
+use Rattle.std.specs.Prelude.{Err, None, Ok, Option, Some}
+use Rattle.tuple.specs.Refusals.{Verdict}
 use Rattle.policy.specs.Laws.{Denial}
 use Rattle.policy.specs.Laws.Denial.{denied, second, unborne}
 use Rattle.policy.specs.Policies.{verdict_on}
@@ -31,13 +32,9 @@ use Rattle.space.specs.declared.space.Space.{Space}
 use Rattle.space.specs.Configs.{known}
 use Rattle.space.specs.Spaces.{held, space_of, well_formed}
 use Rattle.space.proofs.SpaceRules.{Lawful, mem-take, mem-drop}
-use Rattle.tuple.specs.declared.fault.Fault.{Fault}
-use Rattle.tuple.specs.declared.fault.Fault.TheVariants.{Absent, Present}
 use Rattle.tuple.specs.declared.field.Field.{Field}
 use Rattle.tuple.specs.declared.field.Tuple.{Tuple}
 use Rattle.tuple.specs.declared.field.Call.{Call}
-use Rattle.tuple.specs.declared.matching.Found.{Found}
-use Rattle.tuple.specs.declared.matching.Found.TheVariants.{At, Nowhere}
 use Rattle.tuple.specs.declared.refusal.Refusal.{Refusal}
 use Rattle.tuple.specs.declared.reply.Outcome.{Outcome}
 use Rattle.tuple.specs.declared.reply.Outcome.TheVariants as outcome
@@ -52,24 +49,24 @@ use Rattle.tuple.proofs.NoFault.{between, call-sound}
 -- ---- the fault of a call
 
 -- a fault has a number of at most 5
-abbrev Early : Fault → Type 0
-Early Absent = Unit {0}
-Early (Present why) = number_of why ≤ 5
+abbrev Early : Verdict → Type 0
+Early (Ok _) = Unit {0}
+Early (Err why) = number_of why ≤ 5
 
-unless-early : (t : Bool) (why : Refusal) (next : Fault) → number_of why ≤ 5 → Early next → Early (unless t why next)
+unless-early : (t : Bool) (why : Refusal) (next : Verdict) → number_of why ≤ 5 → Early next → Early (unless t why next)
 unless-early true why next h e = e
 unless-early false why next h e = h
 
-first-early : (a b : Fault) → Early a → Early b → Early (first a b)
-first-early Absent b x y = y
-first-early (Present why) b x y = x
+first-early : (a b : Verdict) → Early a → Early b → Early (first a b)
+first-early (Ok _) b x y = y
+first-early (Err why) b x y = x
 
 field-early : (entry : Bool) (field : Field) → Early (field_fault entry field)
 unfolding field_fault
 field-early entry field =
     unless-early (known_head field) (refusal 4) _ (omega arith)
     (unless-early (not entry || is_defined field) (refusal 5) _ (omega arith)
-    (unless-early (not (is_defined field) || leb field.value (largest_of field.kind)) (refusal 3) Absent (omega arith) tt))
+    (unless-early (not (is_defined field) || leb field.value (largest_of field.kind)) (refusal 3) (Ok tt) (omega arith) tt))
 
 fields-early : (entry : Bool) (fields : List Field) → Early (fields_fault entry fields)
 unfolding fields_fault
@@ -89,11 +86,11 @@ call-early call =
     first-early (used_fault call) _
     (unless-early (leb out call.code && leb call.code cas) (refusal 4) _ (omega arith)
     (first-early (part_fault call.template template false) (part_fault call.entry entry true) (part-early call.template template false) (part-early call.entry entry true)))
-    (unless-early (rest_blank call.template template && rest_blank call.entry entry) (refusal 5) Absent (omega arith) tt)
+    (unless-early (rest_blank call.template template && rest_blank call.entry entry) (refusal 5) (Ok tt) (omega arith) tt)
 
 -- ---- the entry of a call
 
-pub entry-sound : (call : Call) → call_fault call ≡ Absent → uses_entry call.code ≡ true → is_entry call.entry ≡ true
+pub entry-sound : (call : Call) → call_fault call ≡ Ok tt → uses_entry call.code ≡ true → is_entry call.entry ≡ true
 unfolding is_entry part_fault
 entry-sound call sound used = let part = rw used at (call-sound call sound).entry in rw (part.fault, part.rest)
 
@@ -102,7 +99,7 @@ entry-sound call sound used = let part = rw used at (call-sound call sound).entr
 -- a call that is to put its entry, and the answer if there is room
 pub data Puts (tuples : List Tuple) (call : Call) : Outcome → Type 0 where
   by_out : call.code ≡ out → Puts tuples call outcome.Done
-  by-cas : call.code ≡ cas → oldest_of tuples call.template ≡ Nowhere → Puts tuples call outcome.Inserted
+  by-cas : call.code ≡ cas → oldest_of tuples call.template ≡ None → Puts tuples call outcome.Inserted
 
 -- what a call answers, and what becomes of the tuples
 pub data Moves (tuples : List Tuple) (call : Call) : Outcome → Change → Type 0 where
@@ -111,7 +108,7 @@ pub data Moves (tuples : List Tuple) (call : Call) : Outcome → Change → Type
   reads : call.code ≡ rdp → Moves tuples call outcome.Found Keep
   lacks : Moves tuples call outcome.None Keep
   keeps : Moves tuples call outcome.Held Keep
-  takes : (i : ℕ) → call.code ≡ inp → oldest_of tuples call.template ≡ At i → i < length tuples → Moves tuples call outcome.Found (Remove i)
+  takes : (i : ℕ) → call.code ≡ inp → oldest_of tuples call.template ≡ Some i → i < length tuples → Moves tuples call outcome.Found (Remove i)
 
 abbrev Moved : List Tuple → Call → Effect → Type 0
 Moved tuples call does = Moves tuples call does.reply.outcome does.change
@@ -126,19 +123,19 @@ module _ (tuples : List Tuple) (call : Call) where
   append-moves : {how : Outcome} → Puts tuples call how → Moved tuples call (effects.appends how (length tuples))
   append-moves p = append-by _ (ltb-true (length tuples) capacity) (ltb-false (length tuples) capacity) p
 
-  rdp-moves : call.code ≡ rdp → (found : Found) → Moved tuples call (effects.rdp_effect tuples found)
-  rdp-moves e (At i) = reads e
-  rdp-moves e Nowhere = lacks
+  rdp-moves : call.code ≡ rdp → (found : (Option ℕ)) → Moved tuples call (effects.rdp_effect tuples found)
+  rdp-moves e (Some i) = reads e
+  rdp-moves e None = lacks
 
-  inp-moves : call.code ≡ inp → (found : Found) → oldest_of tuples call.template ≡ found → Moved tuples call (effects.inp_effect tuples found)
-  inp-moves e (At i) at = takes i e at ((oldest-rule.at tuples call.template i).0 at).0
-  inp-moves e Nowhere at = lacks
+  inp-moves : call.code ≡ inp → (found : (Option ℕ)) → oldest_of tuples call.template ≡ found → Moved tuples call (effects.inp_effect tuples found)
+  inp-moves e (Some i) at = takes i e at ((oldest-rule.at tuples call.template i).0 at).0
+  inp-moves e None at = lacks
 
-  cas-moves : call.code ≡ cas → (found : Found) → oldest_of tuples call.template ≡ found → Moved tuples call (effects.cas_effect tuples found)
-  cas-moves e (At i) at = keeps
-  cas-moves e Nowhere at = append-moves (by-cas e at)
+  cas-moves : call.code ≡ cas → (found : (Option ℕ)) → oldest_of tuples call.template ≡ found → Moved tuples call (effects.cas_effect tuples found)
+  cas-moves e (Some i) at = keeps
+  cas-moves e None at = append-moves (by-cas e at)
 
-  pub moves : call_fault call ≡ Absent → Moved tuples call (effects.effect tuples call)
+  pub moves : call_fault call ≡ Ok tt → Moved tuples call (effects.effect tuples call)
   unfolding effects.effect
   moves sound =
       let found = oldest_of tuples call.template in
@@ -157,7 +154,7 @@ changed tuples entry Append = tuples ++ (entry ∷ [])
 changed tuples entry (Remove i) = without i tuples
 
 module _ {tuples : List Tuple} {call : Call} where
-  pub moves-carried : {how : Outcome} {change : Change} (config : Config) → length tuples ≤ capacity → verdict_on config tuples call ≡ Permit → Moves tuples call how change
+  pub moves-carried : {how : Outcome} {change : Change} (config : Config) → length tuples ≤ capacity → verdict_on config tuples call ≡ Ok tt → Moves tuples call how change
       → carried_out (space_of config tuples) call.entry change ≡ space_of config (changed tuples call.entry change)
   unfolding carried_out
   moves-carried config few may (adds p room) = (carried-rules config tuples call.entry).append room
@@ -167,7 +164,7 @@ module _ {tuples : List Tuple} {call : Call} where
   moves-carried config few may keeps = refl
   moves-carried config few may (takes i e at inside) = (carried-rules config tuples call.entry).remove i inside few (taken-bare config tuples call may e)
 
-  pub puts-entry : {how : Outcome} → call_fault call ≡ Absent → Puts tuples call how → is_entry call.entry ≡ true
+  pub puts-entry : {how : Outcome} → call_fault call ≡ Ok tt → Puts tuples call how → is_entry call.entry ≡ true
   unfolding uses_entry
   puts-entry sound (by_out e) = entry-sound call sound (rw e)
   puts-entry sound (by-cas e none) = entry-sound call sound (rw e)
@@ -176,7 +173,7 @@ module _ {tuples : List Tuple} {call : Call} where
   puts-code (by_out e) = inl e
   puts-code (by-cas e none) = inr e
 
-  pub moves-lawful : {how : Outcome} {change : Change} {config : Config} → call_fault call ≡ Absent → Lawful config tuples → verdict_on config tuples call ≡ Permit
+  pub moves-lawful : {how : Outcome} {change : Change} {config : Config} → call_fault call ≡ Ok tt → Lawful config tuples → verdict_on config tuples call ≡ Ok tt
       → Moves tuples call how change → Lawful config (changed tuples call.entry change)
   moves-lawful {config = config} sound lawful may (adds p room) =
       record {
@@ -211,13 +208,13 @@ denial-never unborne e = omega arith
 pub data Steps (space : Space) (call : Call) : Applied → Type 0 where
   refuses : (why : Refusal) → number_of why ≤ 6 → Steps space call (carried_by space call (effects.refuses why))
   denies : {why : Refusal} → Denied why space call → Steps space call (carried_by space call (effects.refuses why))
-  obeys : well_formed space ≡ true → call_fault call ≡ Absent → (1 ≤ call.process) × (call.process ≤ space.config.n)
-      → verdict_on space.config (held space) call ≡ Permit
+  obeys : well_formed space ≡ true → call_fault call ≡ Ok tt → (1 ≤ call.process) × (call.process ≤ space.config.n)
+      → verdict_on space.config (held space) call ≡ Ok tt
       → Steps space call (carried_by space call (effects.effect (held space) call))
 
 module _ (space : Space) (call : Call) where
   module _ (formed : well_formed space ≡ true) where
-    verdict-steps : call_fault call ≡ Absent → known space.config call.process ≡ true
+    verdict-steps : call_fault call ≡ Ok tt → known space.config call.process ≡ true
         → Steps space call (carried_by space call (judged_by (held space) call (verdict_on space.config (held space) call)))
     unfolding known
     verdict-steps sound k =
@@ -227,11 +224,11 @@ module _ (space : Space) (call : Call) where
           | inr d ↦ rw d.2 (denies {why = d.0} (record { cause = d.1; formed = formed; sound = sound; known = member; forbidden = d.2 }))
         ]
 
-    fault-steps : (fault : Fault) → call_fault call ≡ fault → Early fault
+    fault-steps : (fault : Verdict) → call_fault call ≡ fault → Early fault
         → Steps space call (carried_by space call (judged_by (held space) call (behind_fault fault (demand (known space.config call.process) (refusal 6) (verdict_on space.config (held space) call)))))
-    fault-steps Absent e early =
+    fault-steps (Ok _) e early =
         cases (known space.config call.process) (λ k. rw k (verdict-steps e k)) (λ k. rw k (refuses (refusal 6) (omega arith)))
-    fault-steps (Present why) e early = refuses why (omega arith)
+    fault-steps (Err why) e early = refuses why (omega arith)
 
   pub steps : Steps space call (applied space call)
   unfolding applied searched first_refusal

@@ -1,12 +1,14 @@
--- What becomes of the tuples, carried out: the laws of the loop that takes a tuple off, and `CarriedRules`.
+-- What becomes of the tuples, carried out: the law of the copy that takes a tuple off, and `CarriedRules`.
 use mathlib.Core.Path.{◌≡◌, refl, sym, ap, ap₂, ◌∙◌}
 use Prim.Native.Nat.{ℕ, suc, ◌+◌, ◌-◌, ◌≤◌, ◌<◌}
 use native.Mathlib.Omega.{arith}
 use mathlib.Core.Bool.{false}
-use mathlib.Core.List.{List, [], ◌∷◌, ◌++◌, append_assoc}
-use lib.ListN.{length, take, drop, get_or, set, replicate, length-append, length-take, length-drop, length-set, take-append-drop}
-use lib.Seq.{length-take-le, take-append-le, drop-append-le, append_snoc, take_at, drop_at, set_at, set_split, take-suc-set, drop-set-lt}
+use mathlib.Core.List.{List, [], ◌∷◌, ◌++◌}
+use lib.ListN.{length, take, drop, get_or, set, replicate, length-append, length-take, length-drop}
+use lib.Seq.{length-take-le, take-take, append_snoc, drop_at, set_at}
 use borrow.Author.Tests.{lt-ltb, le-leb}
+use Rattle.std.specs.List.{copy_within}
+use Rattle.std.proofs.lemmas.List.{drop-take}
 use Rattle.calls.specs.Changes.{without, appended, removed, carried_out}
 use Rattle.calls.specs.Laws.{CarriedRules}
 use Rattle.space.specs.declared.config.Config.{Config}
@@ -23,88 +25,34 @@ use Rattle.tuple.proofs.Lists.{drop-step}
 
 -- ---- lists of tuples
 
-without-front : (at : ℕ) (front back : List Tuple) → at < length front → without at (front ++ back) ≡ without at front ++ back
-without-front at front back h =
-    ap₂ (λ (a b : List Tuple). a ++ b) (take-append-le at front back (omega arith)) (drop-append-le (at + 1) front back (omega arith))
-    ∙ sym (append_assoc (take at front) (drop (at + 1) front) back)
-
 without-length : (at : ℕ) (tuples : List Tuple) → at < length tuples → length (without at tuples) ≡ length tuples - 1
 without-length at tuples h = simp (length-append, length-take, length-drop) (omega arith)
 
 -- ---- a tuple taken off
 
--- those behind the place, up to i, have moved one place to the left
-pub record Moved (first : Space) (at : ℕ) (now : Space) (i : ℕ) : Type 0 where
-  pub behind : at < i
-  pub inside : i ≤ first.count
-  pub config : now.config ≡ first.config
-  pub table : now.table ≡ first.table
-  pub long : length now.tuples ≡ capacity
-  pub same : take (i - 1) now.tuples ++ drop i now.tuples ≡ without at first.tuples
-
-module _ (first : Space) (few : first.count ≤ capacity) (long : length first.tuples ≡ capacity) (at : ℕ) where
-  pub moved_none : at < first.count → Moved first at first (at + 1)
-  moved_none h =
-      let place : at + 1 - 1 ≡ at = omega arith in
-      record {
-        behind = omega arith;
-        inside = omega arith;
-        config = refl;
-        table = refl;
-        long = long;
-        same = ap (λ (k : ℕ). take k first.tuples ++ drop (at + 1) first.tuples) place;
-      }
-
-  module _ (now : Space) (i : ℕ) (moved : Moved first at now i) where
-    pub moved_more : i < first.count → (other : Tuple)
-        → Moved first at (record { config = now.config; count = now.count; tuples = set now.tuples (i - 1) (get_or now.tuples i other); table = now.table }) (i + 1)
-    moved_more h other =
-        let tuple = get_or now.tuples i other in
-        let last : i + 1 - 1 ≡ suc (i - 1) = omega (arith, moved.behind) in
-        let front : take (i + 1 - 1) (set now.tuples (i - 1) tuple) ≡ take (i - 1) now.tuples ++ (tuple ∷ []) =
-        ap (λ (k : ℕ). take k (set now.tuples (i - 1) tuple)) last ∙ take-suc-set now.tuples (i - 1) tuple (omega (arith, moved.long)) in
-        let back : drop (i + 1) (set now.tuples (i - 1) tuple) ≡ drop (i + 1) now.tuples = drop-set-lt (i + 1) now.tuples (i - 1) tuple (omega arith) in
-        record {
-          behind = omega (arith, moved.behind);
-          inside = omega arith;
-          config = moved.config;
-          table = moved.table;
-          long = length-set now.tuples (i - 1) tuple ∙ moved.long;
-          same =
-              ap₂ (λ (a b : List Tuple). a ++ b) front back
-              ∙ append_snoc (take (i - 1) now.tuples) tuple (drop (i + 1) now.tuples)
-              ∙ ap (λ (l : List Tuple). take (i - 1) now.tuples ++ l) (sym (drop-step now.tuples i other (omega (arith, moved.long))))
-              ∙ moved.same;
-        }
-
-    -- and a blank is set where the last one stood
-    pub moved_all : first.count ≤ i → (blank : Tuple) → blank ≡ blank_tuple
-        → record { config = now.config; count = first.count - 1; tuples = set now.tuples (first.count - 1) blank; table = now.table } ≡ removed first at
-    moved_all h blank is-blank =
-        let count = first.count in
-        let rest = without at (held first) in
-        let behind = drop count first.tuples in
-        let end : i ≡ count = omega (arith, moved.inside) in
-        let last : count ≡ suc (count - 1) = omega (arith, moved.behind) in
-        let inside : count - 1 < length now.tuples = omega (arith, moved.long) in
-        let counted : length (held first) ≡ count = length-take-le count first.tuples (omega arith) in
-        let left : length rest ≡ count - 1 = without-length at (held first) (omega (arith, moved.behind)) ∙ ap (λ (n : ℕ). n - 1) counted in
-        let front_long : length (take (count - 1) now.tuples) ≡ count - 1 = length-take-le (count - 1) now.tuples (omega arith) in
-        let whole : take (count - 1) now.tuples ++ drop count now.tuples ≡ rest ++ behind =
-        ap (λ (k : ℕ). take (k - 1) now.tuples ++ drop k now.tuples) (sym end)
-        ∙ moved.same
-        ∙ ap (without at) (sym (take-append-drop count first.tuples))
-        ∙ without-front at (held first) behind (omega (arith, moved.behind)) in
-        let front : take (count - 1) now.tuples ≡ rest =
-        sym (take_at (take (count - 1) now.tuples) (drop count now.tuples) (count - 1) front_long) ∙ ap (take (count - 1)) whole ∙ take_at rest behind (count - 1) left in
-        let back : drop count now.tuples ≡ behind =
-        sym (drop_at (take (count - 1) now.tuples) (drop count now.tuples) (count - 1) front_long) ∙ ap (drop (count - 1)) whole ∙ drop_at rest behind (count - 1) left in
-        let stored : set now.tuples (count - 1) blank ≡ rest ++ (blank_tuple ∷ behind) =
-        set_split now.tuples (count - 1) blank inside
-        ∙ ap (λ (k : ℕ). take (count - 1) now.tuples ++ blank ∷ drop k now.tuples) (sym last)
-        ∙ ap₂ (λ (a b : List Tuple). a ++ blank ∷ b) front back
-        ∙ ap (λ (t : Tuple). rest ++ t ∷ behind) is-blank in
-        λ k. record { config = moved.config k; count = count - 1; tuples = stored k; table = moved.table k }
+-- those behind the place are copied one place to the left, and a blank is set where the last one stood
+pub copied-down : (first : Space) → first.count ≤ capacity → length first.tuples ≡ capacity → (at : ℕ) → at < first.count
+    → (copied : List Tuple) → copied ≡ copy_within first.tuples (at + 1) first.count at → (blank : Tuple) → blank ≡ blank_tuple
+    → record { config = first.config; count = first.count - 1; tuples = set copied (first.count - 1) blank; table = first.table } ≡ removed first at
+copied-down first few long at h copied is blank is-blank =
+    let count = first.count in
+    let tuples = first.tuples in
+    let left = count - (at + 1) in
+    let last = get_or tuples (count - 1) blank_tuple in
+    let before : take at tuples ≡ take at (held first) = sym (take-take at count tuples (omega arith)) in
+    let behind : take left (drop (at + 1) tuples) ≡ drop (at + 1) (held first) =
+    sym (drop-take (at + 1) left tuples) ∙ ap (λ (k : ℕ). drop (at + 1) (take k tuples)) (omega arith) in
+    let rest : drop (at + left) tuples ≡ last ∷ drop count tuples =
+    ap (λ (k : ℕ). drop k tuples) (omega arith) ∙ drop-step tuples (count - 1) blank_tuple (omega arith) ∙ ap (λ (k : ℕ). last ∷ drop k tuples) (omega arith) in
+    let counted : length (without at (held first)) ≡ count - 1 =
+    without-length at (held first) (simp length-take (omega arith)) ∙ ap (λ (n : ℕ). n - 1) (length-take-le count tuples (omega arith)) in
+    let moved : copied ≡ without at (held first) ++ (last ∷ drop count tuples) =
+    is ∙ ap₂ (λ (a b : List Tuple). a ++ b) (ap₂ (λ (a b : List Tuple). a ++ b) before behind) rest in
+    let stored : set copied (count - 1) blank ≡ without at (held first) ++ (blank_tuple ∷ drop count tuples) =
+    ap (λ (l : List Tuple). set l (count - 1) blank) moved
+    ∙ set_at (without at (held first)) last (drop count tuples) blank (count - 1) counted
+    ∙ ap (λ (t : Tuple). without at (held first) ++ t ∷ drop count tuples) is-blank in
+    λ k. record { config = first.config; count = count - 1; tuples = stored k; table = first.table }
 
 -- ---- on the space of these tuples
 

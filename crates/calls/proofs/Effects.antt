@@ -17,7 +17,7 @@ use Rattle.calls.proofs.CallSteps.{Puts as Enters, Moves, moves, changed, moves-
 use Rattle.calls.proofs.CallSteps.Puts.{by_out, by-cas}
 use Rattle.calls.proofs.CallSteps.Moves.{adds, reads, lacks, keeps, takes}
 use Rattle.calls.proofs.CallSteps.Steps.{refuses, denies, obeys}
-use Rattle.policy.specs.declared.verdicts.Verdict.TheVariants.{Permit}
+use Rattle.std.specs.Prelude.{None, Ok}
 use Rattle.policy.specs.Laws.{WeakCall}
 use Rattle.policy.specs.Policies.{verdict_on}
 use Rattle.policy.specs.Shapes.{decided_code, set_of}
@@ -35,7 +35,6 @@ use Rattle.space.proofs.MemberLaws.{within-rule}
 use Rattle.space.proofs.SpaceRules.{held_of, formed-few}
 use Rattle.tuple.specs.declared.field.Tuple.{Tuple}
 use Rattle.tuple.specs.declared.field.Call.{Call}
-use Rattle.tuple.specs.declared.matching.Found.TheVariants.{Nowhere}
 use Rattle.tuple.specs.declared.refusal.Refusal.TheVariants.{Full}
 use Rattle.tuple.specs.declared.reply.Outcome.{Outcome}
 use Rattle.tuple.specs.declared.reply.Outcome.TheVariants as outcome
@@ -73,7 +72,7 @@ pub record Cas (config : Config) (tuples : List Tuple) (call : Call) : Type 0 wh
   pub code : call.code ≡ cas
   pub entry : Decision config call.entry
   pub alone : (i : ℕ) → i < length tuples → decides config (get_or tuples i blank_tuple) ≡ true → round_of (get_or tuples i blank_tuple) ≡ round_of call.entry → ⊥
-  pub permitted : verdict_on config tuples call ≡ Permit
+  pub permitted : verdict_on config tuples call ≡ Ok tt
 
 -- what a call that puts its entry has passed, and what it answers
 pub data Puts (config : Config) (tuples : List Tuple) (call : Call) : Outcome → Type 0 where
@@ -93,7 +92,7 @@ no-inp config strict early tuples call code permitted =
     let denied = inp-rule config tuples call strict early code in
     let z : ◌≡◌ {A = ℕ} 0 1 = cc in omega arith
 
-module _ (config : Config) (safe : sound config ≡ true) (deciding : Deciding config) (tuples : List Tuple) (call : Call) (permitted : verdict_on config tuples call ≡ Permit) where
+module _ (config : Config) (safe : sound config ≡ true) (deciding : Deciding config) (tuples : List Tuple) (call : Call) (permitted : verdict_on config tuples call ≡ Ok tt) where
   by-policy : {X : Type 0} → (config.policy ≡ 1 → WeakCall call → X) → (has_proposals config ≡ true → X) → X
   by-policy one rests =
       cases (eqb config.policy 1)
@@ -119,7 +118,7 @@ module _ (config : Config) (safe : sound config ≡ true) (deciding : Deciding c
       })
 
   -- a cas that finds no decision of its round
-  puts-cas : call.code ≡ cas → oldest_of tuples call.template ≡ Nowhere → Cas config tuples call
+  puts-cas : call.code ≡ cas → oldest_of tuples call.template ≡ None → Cas config tuples call
   puts-cas code none =
       by-policy
       (λ one weak. cas-alone (rw (eq-eqb config.policy 1 one) weak.template) weak.same (record {
@@ -155,7 +154,7 @@ module _ (config : Config) (safe : sound config ≡ true) (deciding : Deciding c
 
 module _ (config : Config) (safe : sound config ≡ true) (deciding : Deciding config) (tuples : List Tuple) (call : Call) where
   -- a call that is obeyed
-  module _ (known : (1 ≤ call.process) × (call.process ≤ config.n)) (permitted : verdict_on config tuples call ≡ Permit) where
+  module _ (known : (1 ≤ call.process) × (call.process ≤ config.n)) (permitted : verdict_on config tuples call ≡ Ok tt) where
     asked : {how : Outcome} → Enters tuples call how → Puts config tuples call how
     asked (by_out e) = proposes (puts-out config safe deciding tuples call permitted known e)
     asked (by-cas e none) = decided (puts-cas config safe deciding tuples call permitted e none)

@@ -30,7 +30,7 @@ use Rattle.space.specs.declared.space.Space.{Space}
 use Rattle.space.specs.Announcements.{is_announcement, announces, announced_of, announcer_of, Announcing, Oldest}
 use Rattle.space.specs.Configs.{plain_sound, sound, has_proposals, has_list, known}
 use Rattle.space.specs.Lists.{listed_process, is_list_tuple, position_of, serial_of, lists, is_there, is_filled, is_listed, Listed}
-use Rattle.space.specs.Spaces.{held, space_of, place_sound, places_from, table_sound, bounded, well_formed, fresh_of}
+use Rattle.space.specs.Spaces.{held, space_of, place_sound, places_from, table_sound, bounded, well_formed, fresh_space}
 use Rattle.space.specs.Tables.{belongs, entered, table_from, empty_table, fits_table, tabled_from, same_from}
 use Rattle.space.proofs.ConfigLaws.{sound-rule, sound-range}
 use Rattle.space.proofs.ListLaws.{list-tuple}
@@ -347,7 +347,7 @@ only-alone config safe five one =
 alone-run : AloneRun alone
 unfolding alone last_of turns_from applied searched first_refusal verdict_on shared may_list is_list_call has_shape is_new begins follows preferred owed is_due may_announce
     is_announcement announces announced_of is_listed is_filled is_there lists
-    has_proposals has_list plain_sound sound known bounded place_sound places_from table_sound belongs entered table_from empty_table fits_table tabled_from same_from well_formed fresh_of carried_out effect
+    has_proposals has_list plain_sound sound known bounded place_sound places_from table_sound belongs entered table_from empty_table fits_table tabled_from same_from well_formed fresh_space carried_out effect
     call_fault used_fault uses_template uses_entry part_fault tuple_fault fields_fault field_fault known_head largest_of rest_blank rest_from place_blank is_blank is_entry
     field_matches fields_match matches oldest_from oldest_of
 alone-run = record { announces = refl; denied = refl; lists = refl }

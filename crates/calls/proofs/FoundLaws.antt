@@ -13,21 +13,21 @@ use Rattle.space.specs.Configs.{known}
 use Rattle.space.specs.Spaces.{held, well_formed}
 use Rattle.space.proofs.SpaceRules.{formed-bounded}
 use Rattle.space.proofs.TableSteps.{known_some}
-use Rattle.tuple.specs.declared.fault.Fault.{Fault}
-use Rattle.tuple.specs.declared.fault.Fault.TheVariants.{Absent, Present}
+use Rattle.std.specs.Prelude.{Err, Ok}
+use Rattle.tuple.specs.Refusals.{Verdict}
 use Rattle.tuple.specs.declared.field.Call.{Call}
 use Rattle.tuple.specs.Faults.{call_fault}
 use Rattle.tuple.specs.Refusals.{refusal}
 
 module _ (space : Space) (call : Call) (formed : well_formed space ≡ true) where
-  by-fault : (fault : Fault)
+  by-fault : (fault : Verdict)
       → behind_fault fault (demand (known space.config call.process) (refusal 6) (verdict space call))
       ≡ behind_fault fault (demand (known space.config call.process) (refusal 6) (verdict_on space.config (held space) call))
-  by-fault Absent =
+  by-fault (Ok _) =
       cases (known space.config call.process)
       (λ k. let member = known_some space.config call.process k in rw (verdict-found space call formed member.0 member.1))
       (λ k. rw k)
-  by-fault (Present why) = refl
+  by-fault (Err why) = refl
 
 pub judged-found : JudgedFound
 unfolding judged searched first_refusal

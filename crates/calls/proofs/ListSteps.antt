@@ -21,7 +21,7 @@ use Rattle.calls.proofs.CallSteps.{Moves, moves, changed, moves-carried, denial-
 use Rattle.calls.proofs.CallSteps.Puts.{by_out, by-cas}
 use Rattle.calls.proofs.Keys.{at_most}
 use Rattle.calls.proofs.Walks.{Keeps}
-use Rattle.policy.specs.declared.verdicts.Verdict.TheVariants.{Permit}
+use Rattle.std.specs.Prelude.{None, Ok}
 use Rattle.policy.specs.Laws.{ListCall, OwnAnnouncement}
 use Rattle.policy.specs.Listing.{positions, is_due}
 use Rattle.policy.specs.Policies.{verdict_on}
@@ -38,7 +38,6 @@ use Rattle.space.proofs.ConfigLaws.{sound-range, has-list-rule}
 use Rattle.space.proofs.SpaceRules.{held_of, formed-few, stands, place}
 use Rattle.tuple.specs.declared.field.Tuple.{Tuple}
 use Rattle.tuple.specs.declared.field.Call.{Call}
-use Rattle.tuple.specs.declared.matching.Found.TheVariants.{Nowhere}
 use Rattle.tuple.specs.declared.refusal.Refusal.TheVariants.{Full}
 use Rattle.tuple.specs.declared.reply.Outcome.{Outcome}
 use Rattle.tuple.specs.declared.reply.Outcome.TheVariants.{Inserted, Refused}
@@ -147,7 +146,7 @@ module _ (tuples : List Tuple) (entry : Tuple) (P : ℕ → Tuple → Type 0) (b
 
 -- ---- the next entry
 
-module _ {tuples : List Tuple} {call : Call} (orderly : Orderly (list_of tuples)) (list : ListCall tuples call) (none : oldest_of tuples call.template ≡ Nowhere) where
+module _ {tuples : List Tuple} {call : Call} (orderly : Orderly (list_of tuples)) (list : ListCall tuples call) (none : oldest_of tuples call.template ≡ None) where
   -- its position is not filled
   pub vacant : {tuple : Tuple} → Memᴰ tuple tuples → is_list_tuple tuple ≡ true → position_of tuple ≡ position_of call.entry → ⊥
   vacant {tuple} m shape same =
@@ -279,12 +278,12 @@ pub record Lists (config : Config) (tuples : List Tuple) (call : Call) : Type 0 
   pub code : call.code ≡ cas
   pub list : ListCall tuples call
   pub due : is_due config tuples call ≡ true
-  pub none : oldest_of tuples call.template ≡ Nowhere
+  pub none : oldest_of tuples call.template ≡ None
   pub inserted : (applied (space_of config tuples) call).reply.outcome ≡ Inserted
 
 pub data Step (config : Config) (tuples : List Tuple) (call : Call) (done : Applied) : Type 0 where
   kept : (done.reply.outcome ≡ Refused Full → ⊥) → (done.reply.outcome ≡ Inserted → ⊥) → done.space ≡ space_of config tuples → Step config tuples call done
-  listed : call.code ≡ cas → ListCall tuples call → is_due config tuples call ≡ true → oldest_of tuples call.template ≡ Nowhere
+  listed : call.code ≡ cas → ListCall tuples call → is_due config tuples call ≡ true → oldest_of tuples call.template ≡ None
       → done.reply.outcome ≡ Inserted → done.space ≡ space_of config (tuples ++ (call.entry ∷ [])) → Step config tuples call done
   announced : config.policy ≡ 5 → OwnAnnouncement tuples call → (1 ≤ call.process) × (call.process ≤ config.n)
       → (done.reply.outcome ≡ Refused Full → ⊥) → (done.reply.outcome ≡ Inserted → ⊥) → done.space ≡ space_of config (tuples ++ (call.entry ∷ [])) → Step config tuples call done
@@ -301,12 +300,12 @@ four-other template tuple many h =
 
 module _ (config : Config) (lists : has_list config ≡ true) (tuples : List Tuple) (call : Call) where
   -- what is not permitted under policy 4 is asked under 5
-  under-five : {X : Type 0} → verdict_on config tuples call ≡ Permit → (call.code ≡ rdp → ⊥) → (call.code ≡ cas → ⊥) → (config.policy ≡ 5 → X) → X
+  under-five : {X : Type 0} → verdict_on config tuples call ≡ Ok tt → (call.code ≡ rdp → ⊥) → (call.code ≡ cas → ⊥) → (config.policy ≡ 5 → X) → X
   under-five permitted no-rdp no-cas go =
       ⊎_elim (λ four. absurd (⊎_elim (λ r. no-rdp r) (λ p. no-cas p.0) ((list-rule config tuples call four).0 permitted))) go ((has-list-rule config).0 lists)
 
   -- what a call that is obeyed may be
-  obeyed : {how : Outcome} {change : Change} {done : Applied} → (1 ≤ call.process) × (call.process ≤ config.n) → verdict_on config tuples call ≡ Permit
+  obeyed : {how : Outcome} {change : Change} {done : Applied} → (1 ≤ call.process) × (call.process ≤ config.n) → verdict_on config tuples call ≡ Ok tt
       → Moves tuples call how change → done.reply.outcome ≡ how → done.space ≡ space_of config (changed tuples call.entry change) → Step config tuples call done
   obeyed known permitted (Moves.adds (by_out e) room) answers same =
       under-five permitted (λ r. omega arith) (λ c. omega arith) (λ five.
@@ -342,7 +341,7 @@ pub record Advance (config : Config) (tuples : List Tuple) (call : Call) : Type 
   pub grown : Grown config tuples call keeps.next
 
 module _ {config : Config} {tuples : List Tuple} (call : Call) (shared : Shared config tuples) where
-  list-key : (tuple : Tuple) → Memᴰ tuple tuples → ListCall tuples call → oldest_of tuples call.template ≡ Nowhere → key tuple ≡ key call.entry → ⊥
+  list-key : (tuple : Tuple) → Memᴰ tuple tuples → ListCall tuples call → oldest_of tuples call.template ≡ None → key tuple ≡ key call.entry → ⊥
   list-key tuple m list none same = elim-kind (shared.each tuple m)
     where
       elim-kind : Kind config tuple → ⊥

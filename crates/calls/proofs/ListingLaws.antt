@@ -41,10 +41,9 @@ use Rattle.space.proofs.AnnouncementLaws.{announcement-parts, announcement-rule}
 use Rattle.space.proofs.ConfigLaws.{sound-range, has-list-rule}
 use Rattle.space.proofs.ListLaws.{list-tuple}
 use Rattle.space.proofs.SpaceRules.{Lawful, held_of, formed-of, stands, place}
-use Rattle.tuple.specs.declared.fault.Fault.TheVariants.{Absent}
+use Rattle.std.specs.Prelude.{None, Ok, Some}
 use Rattle.tuple.specs.declared.field.Tuple.{Tuple}
 use Rattle.tuple.specs.declared.field.Call.{Call}
-use Rattle.tuple.specs.declared.matching.Found.TheVariants.{At, Nowhere}
 use Rattle.tuple.specs.declared.reply.Outcome.TheVariants.{Done, Inserted, Refused}
 use Rattle.tuple.specs.declared.reply.Reply.{Reply}
 use Rattle.tuple.specs.Bounds.{capacity, largest_count, largest_code}
@@ -236,7 +235,7 @@ list-grows config before calls safe shares =
 -- ---- going on with it
 
 -- the oldest that matches the template of a position is the tuple there, where only list tuples stand
-pub list-found : {tuples : List Tuple} → Orderly tuples → (i : ℕ) → i < length tuples → oldest_of tuples (list_template (i + 1)) ≡ At i
+pub list-found : {tuples : List Tuple} → Orderly tuples → (i : ℕ) → i < length tuples → oldest_of tuples (list_template (i + 1)) ≡ Some i
 list-found {tuples} orderly i h =
     let template = list_template (i + 1) in
     let asked = list-template (i + 1) in
@@ -251,7 +250,7 @@ list-found {tuples} orderly i h =
     )
 
 list-faultless : (caller position process serial code : ℕ) → position ≤ largest_count → process ≤ largest_count → serial ≤ largest_count → code ≤ largest_code
-    → call_fault (list_for caller position process serial code) ≡ Absent
+    → call_fault (list_for caller position process serial code) ≡ Ok tt
 unfolding call_fault used_fault uses_template uses_entry part_fault tuple_fault fields_fault field_fault known_head largest_of rest_blank rest_from place_blank is_blank
 list-faultless caller position process serial code q p s c =
     rw (le-leb position largest_count q, le-leb process largest_count p, le-leb serial largest_count s, le-leb code largest_code c)
@@ -277,7 +276,7 @@ module _ (config : Config) (safe : sound config ≡ true) (shares : has_list con
   formed : well_formed space ≡ true
   formed = formed-of config tuples safe lawful
 
-  faultless : call_fault call ≡ Absent
+  faultless : call_fault call ≡ Ok tt
   faultless = list-faultless caller position process serial code (omega arith) low small inside
 
   one-before : (position ≡ 1) ⊎ Filled tuples (position - 1)
@@ -324,7 +323,7 @@ module _ (config : Config) (safe : sound config ≡ true) (shares : has_list con
         }
 
     -- the next entry is inserted behind the last
-    unmatched : position ≡ length (list_of tuples) + 1 → oldest_of tuples (list_template position) ≡ Nowhere
+    unmatched : position ≡ length (list_of tuples) + 1 → oldest_of tuples (list_template position) ≡ None
     unmatched next =
         (oldest-rule.nowhere tuples (list_template position)).1 (λ j h. missed (get_or tuples j blank_tuple) (stands tuples j h) (keeps.each _ (stands tuples j h)))
       where
@@ -372,7 +371,7 @@ taken-rule config calls process position serial code safe is-four first filled o
     let range = sound-range config safe in
     let i = position - 1 in
     let same : i + 1 ≡ position = omega arith in
-    let at : oldest_of tuples (list_template position) ≡ At i =
+    let at : oldest_of tuples (list_template position) ≡ Some i =
     ap (λ (p : ℕ). oldest_of tuples (list_template p)) (sym same) ∙ list-found (subst Orderly whole end.shared.list) i (omega (arith, long)) in
     let space = space_of config tuples in
     record {
@@ -430,7 +429,7 @@ next-dues config calls caller safe five room one most =
           ((due-rule config tuples (list_cas caller position serial code) five list).1 (inr (record { own = refl; free = rw (end.lists, end.holds) at free }))) refl);
     }
 
-announce-faultless : (process serial code : ℕ) → process ≤ largest_count → serial ≤ largest_count → code ≤ largest_code → call_fault (announce_out process serial code) ≡ Absent
+announce-faultless : (process serial code : ℕ) → process ≤ largest_count → serial ≤ largest_count → code ≤ largest_code → call_fault (announce_out process serial code) ≡ Ok tt
 unfolding call_fault used_fault uses_template uses_entry part_fault tuple_fault fields_fault field_fault known_head largest_of rest_blank rest_from place_blank is_blank
 announce-faultless process serial code p s c = rw (le-leb process largest_count p, le-leb serial largest_count s, le-leb code largest_code c)
 

@@ -18,9 +18,8 @@ use Rattle.space.specs.declared.config.Config.{Config}
 use Rattle.space.specs.Lists.{is_list_tuple, position_of, Filled}
 use Rattle.space.specs.Spaces.{space_of}
 use Rattle.space.proofs.SpaceRules.{held_of, formed-of, stands, place}
-use Rattle.tuple.specs.declared.fault.Fault.TheVariants.{Absent}
+use Rattle.std.specs.Prelude.{None, Ok, Some}
 use Rattle.tuple.specs.declared.field.Tuple.{Tuple}
-use Rattle.tuple.specs.declared.matching.Found.TheVariants.{At, Nowhere}
 use Rattle.tuple.specs.Bounds.{largest_count}
 use Rattle.tuple.specs.Faults.{call_fault, used_fault, uses_template, uses_entry, part_fault, tuple_fault, fields_fault, field_fault, known_head, rest_blank, rest_from, place_blank, is_blank}
 use Rattle.tuple.specs.Fields.{largest_of, blank_tuple}
@@ -47,7 +46,7 @@ listed-by-when config calls tuple = (
 
 -- ---- rdp of a position
 
-pub read-faultless : (process position : ℕ) → position ≤ largest_count → call_fault (read_at process position) ≡ Absent
+pub read-faultless : (process position : ℕ) → position ≤ largest_count → call_fault (read_at process position) ≡ Ok tt
 unfolding call_fault used_fault uses_template uses_entry part_fault tuple_fault fields_fault field_fault known_head largest_of rest_blank rest_from place_blank is_blank
 read-faultless process position small = rw (le-leb position largest_count small)
 
@@ -61,7 +60,7 @@ module _ {config : Config} {tuples : List Tuple} (keeps : Shared config tuples) 
       elim-kind (Kind.waits five shape some few) = let other = five-other position tuple shape in let z : ◌≡◌ {A = ℕ} 0 1 = cc in absurd (omega arith)
 
   -- the tuple of a filled position is the oldest that matches
-  filled-found : Filled tuples position → (i : ℕ) × (oldest_of tuples (list_template position) ≡ At i) × (get_or tuples i blank_tuple ≡ get_or (list_of tuples) (position - 1) blank_tuple)
+  filled-found : Filled tuples position → (i : ℕ) × (oldest_of tuples (list_template position) ≡ Some i) × (get_or tuples i blank_tuple ≡ get_or (list_of tuples) (position - 1) blank_tuple)
       × (1 ≤ position) × (position ≤ length (list_of tuples))
   unfolding key
   filled-found filled =
@@ -101,7 +100,7 @@ module _ {config : Config} {tuples : List Tuple} (keeps : Shared config tuples) 
         at = omega (arith, entry.at);
       }
 
-  vacant-nowhere : (Filled tuples position → ⊥) → oldest_of tuples (list_template position) ≡ Nowhere
+  vacant-nowhere : (Filled tuples position → ⊥) → oldest_of tuples (list_template position) ≡ None
   vacant-nowhere vacant =
       (oldest-rule.nowhere tuples (list_template position)).1 (λ j h.
       cases (matches (list_template position) (get_or tuples j blank_tuple))

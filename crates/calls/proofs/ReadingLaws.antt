@@ -29,8 +29,7 @@ use Rattle.space.specs.Spaces.{held, space_of}
 use Rattle.space.proofs.SpaceRules.{held_of, stands}
 use Rattle.tuple.specs.declared.field.Tuple.{Tuple}
 use Rattle.tuple.specs.declared.field.Call.{Call}
-use Rattle.tuple.specs.declared.matching.Found as finding
-use Rattle.tuple.specs.declared.matching.Found.TheVariants.{At, Nowhere}
+use Rattle.std.specs.Prelude.{None, Option, Some}
 use Rattle.tuple.specs.declared.offset.Offset.TheVariants.{Hundredths}
 use Rattle.tuple.specs.declared.reply.Reply.{Reply}
 use Rattle.tuple.specs.declared.reply.Outcome.{Outcome}
@@ -87,22 +86,22 @@ module _ (tuples : List Tuple) where
   inserted (inr e) = let z : ◌≡◌ {A = ℕ} 0 1 = cc in omega arith
 
   module _ (template : Tuple) where
-    found-stands : (i : ℕ) → oldest_of tuples template ≡ At i → Memᴰ (get_or tuples i blank_tuple) tuples
+    found-stands : (i : ℕ) → oldest_of tuples template ≡ Some i → Memᴰ (get_or tuples i blank_tuple) tuples
     found-stands i e = stands tuples i ((oldest-rule.at tuples template i).0 e).0
 
-    rdp-shows : (found : finding.Found) → oldest_of tuples template ≡ found → Shows tuples (rdp_effect tuples found)
-    rdp-shows (At i) e a = found-stands i e
-    rdp-shows Nowhere e (inl a) = let z : ◌≡◌ {A = ℕ} 0 1 = cc in absurd (omega arith)
-    rdp-shows Nowhere e (inr a) = let z : ◌≡◌ {A = ℕ} 0 1 = cc in absurd (omega arith)
+    rdp-shows : (found : Option ℕ) → oldest_of tuples template ≡ found → Shows tuples (rdp_effect tuples found)
+    rdp-shows (Some i) e a = found-stands i e
+    rdp-shows None e (inl a) = let z : ◌≡◌ {A = ℕ} 0 1 = cc in absurd (omega arith)
+    rdp-shows None e (inr a) = let z : ◌≡◌ {A = ℕ} 0 1 = cc in absurd (omega arith)
 
-    inp-shows : (found : finding.Found) → oldest_of tuples template ≡ found → Shows tuples (inp_effect tuples found)
-    inp-shows (At i) e a = found-stands i e
-    inp-shows Nowhere e (inl a) = let z : ◌≡◌ {A = ℕ} 0 1 = cc in absurd (omega arith)
-    inp-shows Nowhere e (inr a) = let z : ◌≡◌ {A = ℕ} 0 1 = cc in absurd (omega arith)
+    inp-shows : (found : Option ℕ) → oldest_of tuples template ≡ found → Shows tuples (inp_effect tuples found)
+    inp-shows (Some i) e a = found-stands i e
+    inp-shows None e (inl a) = let z : ◌≡◌ {A = ℕ} 0 1 = cc in absurd (omega arith)
+    inp-shows None e (inr a) = let z : ◌≡◌ {A = ℕ} 0 1 = cc in absurd (omega arith)
 
-    cas-shows : (found : finding.Found) → oldest_of tuples template ≡ found → Shows tuples (cas_effect tuples found)
-    cas-shows (At i) e a = found-stands i e
-    cas-shows Nowhere e a = append-shows Inserted inserted a
+    cas-shows : (found : Option ℕ) → oldest_of tuples template ≡ found → Shows tuples (cas_effect tuples found)
+    cas-shows (Some i) e a = found-stands i e
+    cas-shows None e a = append-shows Inserted inserted a
 
   effect-shows : (call : Call) → Shows tuples (effect tuples call)
   unfolding effect

@@ -21,8 +21,8 @@ use Rattle.policy.proofs.PolicyLaws.{verdict-rule}
 use Rattle.space.specs.declared.space.Space.{Space}
 use Rattle.space.specs.Configs.{known}
 use Rattle.space.specs.Spaces.{held, well_formed}
-use Rattle.tuple.specs.declared.fault.Fault.{Fault}
-use Rattle.tuple.specs.declared.fault.Fault.TheVariants.{Absent, Present}
+use Rattle.std.specs.Prelude.{Err, Ok}
+use Rattle.tuple.specs.Refusals.{Verdict}
 use Rattle.tuple.specs.declared.field.Call.{Call}
 use Rattle.tuple.specs.declared.refusal.Refusal.{Refusal}
 use Rattle.tuple.specs.declared.reply.Outcome.{Outcome}
@@ -52,7 +52,7 @@ module _ (space : Space) (call : Call) (why : Refusal) where
   moves-refused obeyed (Moves.takes i e at inside) r = let z : ◌≡◌ {A = ℕ} 0 1 = cc in absurd (omega arith)
 
   module _ (formed : well_formed space ≡ true) where
-    verdict-refused : call_fault call ≡ Absent → known space.config call.process ≡ true
+    verdict-refused : call_fault call ≡ Ok tt → known space.config call.process ≡ true
         → (judged_by (held space) call (verdict_on space.config (held space) call)).reply.outcome ≡ Refused why → RefusedBy space call why
     unfolding known
     verdict-refused sound k h =
@@ -62,19 +62,19 @@ module _ (space : Space) (call : Call) (why : Refusal) where
           | inr d ↦ same d.0 (denied d.0 (record { cause = d.1; formed = formed; sound = sound; known = member; forbidden = d.2 })) (rw d.2 at h)
         ]
 
-    stranger-refused : call_fault call ≡ Absent → known space.config call.process ≡ false → RefusedBy space call (refusal 6)
+    stranger-refused : call_fault call ≡ Ok tt → known space.config call.process ≡ false → RefusedBy space call (refusal 6)
     unfolding known
     stranger-refused sound k =
         stranger formed sound (λ member. false≢true (sym k ∙ rw (le-leb 1 call.process member.0, le-leb call.process space.config.n member.1) refl))
 
-    fault-refused : (fault : Fault) → call_fault call ≡ fault
+    fault-refused : (fault : Verdict) → call_fault call ≡ fault
         → (judged_by (held space) call (behind_fault fault (demand (known space.config call.process) (refusal 6) (verdict_on space.config (held space) call)))).reply.outcome ≡ Refused why
         → RefusedBy space call why
-    fault-refused Absent e h =
+    fault-refused (Ok _) e h =
         cases (known space.config call.process)
         (λ k. verdict-refused e k (rw k at h))
         (λ k. same (refusal 6) (stranger-refused e k) (rw k at h))
-    fault-refused (Present what) e h = same what (faulty what formed e) h
+    fault-refused (Err what) e h = same what (faulty what formed e) h
 
   refused-by : (applied space call).reply.outcome ≡ Refused why → RefusedBy space call why
   unfolding applied searched first_refusal

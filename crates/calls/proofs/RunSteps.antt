@@ -11,15 +11,14 @@ use Rattle.calls.specs.Changes.{carried_out}
 use Rattle.calls.specs.Effects.{effect}
 use Rattle.calls.specs.Turns.{applied, turns_from, last_of, after}
 use Rattle.calls.proofs.CallSteps.{denial-never, Moves, moves, changed, moves-carried, moves-lawful, Steps, steps}
-use Rattle.policy.specs.declared.verdicts.Verdict.TheVariants.{Permit}
+use Rattle.std.specs.Prelude.{Ok}
 use Rattle.policy.specs.Policies.{verdict_on}
 use Rattle.space.specs.declared.config.Config.{Config}
 use Rattle.space.specs.declared.space.Space.{Space}
 use Rattle.space.specs.Configs.{sound}
-use Rattle.space.specs.Spaces.{held, space_of, well_formed, fresh_of, Tidy}
+use Rattle.space.specs.Spaces.{held, space_of, well_formed, fresh_space, Tidy}
 use Rattle.space.specs.Tables.{tabled_from}
 use Rattle.space.proofs.SpaceRules.{Lawful, held_of, formed-of}
-use Rattle.tuple.specs.declared.fault.Fault.TheVariants.{Absent}
 use Rattle.tuple.specs.declared.field.Tuple.{Tuple}
 use Rattle.tuple.specs.declared.field.Call.{Call}
 use Rattle.tuple.specs.declared.refusal.Refusal.{Refusal}
@@ -33,7 +32,7 @@ use Rattle.tuple.specs.Refusals.{number_of}
 -- what a call makes of the tuples, and the answer
 pub data Goes (config : Config) (tuples : List Tuple) (call : Call) : Outcome → List Tuple → Type 0 where
   stays : (why : Refusal) → (number_of why ≡ 8 → ⊥) → Goes config tuples call (Refused why) tuples
-  goes : {how : Outcome} {change : Change} → call_fault call ≡ Absent → verdict_on config tuples call ≡ Permit → Moves tuples call how change
+  goes : {how : Outcome} {change : Change} → call_fault call ≡ Ok tt → verdict_on config tuples call ≡ Ok tt → Moves tuples call how change
       → Goes config tuples call how (changed tuples call.entry change)
 
 -- a space of the configuration, and the lawful tuples that it holds
@@ -80,15 +79,15 @@ module _ {config : Config} {space : Space} where
 
 -- ---- lists of calls
 
-pub fresh-space : (config : Config) → sound config ≡ true → (fresh_of config).space ≡ space_of config []
-unfolding fresh_of
+pub fresh-space : (config : Config) → sound config ≡ true → fresh_space config ≡ space_of config []
+unfolding fresh_space
 fresh-space config s = rw s
 
 pub none-lawful : (config : Config) → Lawful config []
 unfolding tabled_from
 none-lawful config = record { few = omega arith; entries = λ tuple m. absurd (Memᴰ.not-nil m); table = refl }
 
-unfoldable pub fresh-run : (config : Config) → sound config ≡ true → Run config (fresh_of config).space
+unfoldable pub fresh-run : (config : Config) → sound config ≡ true → Run config (fresh_space config)
 fresh-run config s = record { tuples = []; lawful = none-lawful config; same = fresh-space config s }
 
 pub after_run : {config : Config} {space : Space} (calls : List Call) → Run config space → Run config (after space calls)

@@ -18,7 +18,7 @@ use Rattle.calls.proofs.RunSteps.{Goes, Run, next, held-run, fresh-run, after_ru
 use Rattle.space.specs.declared.config.Config.{Config}
 use Rattle.space.specs.declared.space.Space.{Space}
 use Rattle.space.specs.Configs.{sound}
-use Rattle.space.specs.Spaces.{held, bounded, well_formed, fresh_of}
+use Rattle.space.specs.Spaces.{held, bounded, well_formed, fresh_space}
 use Rattle.tuple.specs.declared.field.Tuple.{Tuple}
 use Rattle.tuple.specs.declared.field.Call.{Call}
 use Rattle.tuple.specs.declared.reply.Outcome.{Outcome}
@@ -127,13 +127,13 @@ unfolding applied carried_out last_of turns_from
 after-unformed [] e = refl
 after-unformed (call ∷ calls) e = rw e (after-unformed calls e)
 
-unopened : (config : Config) → sound config ≡ false → well_formed (fresh_of config).space ≡ false
-unfolding fresh_of well_formed bounded sound
+unopened : (config : Config) → sound config ≡ false → well_formed (fresh_space config) ≡ false
+unfolding fresh_space well_formed bounded sound
 unopened config e = rw e
 
 pub nothing-leaves : NothingLeaves
 nothing-leaves config before calls no-inp =
-    let fresh = (fresh_of config).space in
+    let fresh = fresh_space config in
     cases (sound config)
     (λ s. let run = after_run before (fresh-run config s) in
     let grown = grows_from calls no-inp run in

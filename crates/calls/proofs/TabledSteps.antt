@@ -8,7 +8,7 @@ use lib.Dec.{eqb}
 use lib.ListN.{get_or}
 use borrow.Author.Tests.{eqb-true, ne_eqb}
 use borrow.Table.Steps.{cases}
-use Rattle.policy.specs.declared.verdicts.Verdict.TheVariants.{Permit}
+use Rattle.std.specs.Prelude.{Ok}
 use Rattle.policy.specs.Policies.{verdict_on}
 use Rattle.policy.specs.Shapes.{is_decision}
 use Rattle.policy.proofs.DecisionLaws.{no-proposal}
@@ -50,7 +50,7 @@ decision-alone config rests tuple h = no-proposal config tuple (rw (ne_eqb confi
 
 -- ---- a permitted call
 
-module _ (config : Config) (tuples : List Tuple) (call : Call) (permitted : verdict_on config tuples call ≡ Permit) where
+module _ (config : Config) (tuples : List Tuple) (call : Call) (permitted : verdict_on config tuples call ≡ Ok tt) where
   -- none is taken off where decisions rest on proposals
   pub taken-bare : call.code ≡ inp → has_proposals config ≡ false
   taken-bare e =

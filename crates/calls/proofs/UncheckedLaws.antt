@@ -18,12 +18,12 @@ use Rattle.calls.proofs.FoundLaws.{judged-found}
 use Rattle.calls.proofs.RunSteps.{Run, next, run-formed, fresh-run}
 use Rattle.space.specs.declared.config.Config.{Config}
 use Rattle.space.specs.declared.space.Space.{Space}
-use Rattle.policy.specs.declared.verdicts.Verdict.TheVariants.{Refuse}
+use Rattle.std.specs.Prelude.{Err}
 use Rattle.policy.specs.Listing.{shared}
 use Rattle.policy.specs.Policies.{table_verdict, list_verdict, verdict}
 use Rattle.policy.specs.Verdicts.{demand}
 use Rattle.space.specs.Configs.{sound, has_list, blank_config}
-use Rattle.space.specs.Spaces.{held, space_of, bounded, well_formed, fresh_of}
+use Rattle.space.specs.Spaces.{held, space_of, bounded, well_formed, fresh_space}
 use Rattle.space.specs.Tables.{table_of}
 use Rattle.space.proofs.SpaceRules.{held_of, formed-of}
 use Rattle.tuple.specs.declared.field.Tuple.{Tuple}
@@ -55,7 +55,7 @@ unopened-turns (call ∷ calls) =
     ap (λ (rest : List Turn). followed call (λ (s : Space). rest) (applied (space_of blank_config []) call)) (unopened-turns calls)
 
 pub unchecked : Unchecked
-unfolding turns fresh_of
+unfolding turns fresh_space
 unchecked config calls =
     cases (sound config) (λ e. same-turns e calls (fresh-run config e)) (λ e. rw e (unopened-turns calls))
 
@@ -65,7 +65,7 @@ unchecked config calls =
 abbrev judged_on : Config → ℕ → List Tuple → List ℕ → Call → Effect
 judged_on config count tuples table call =
     let within = sound config && leb count capacity in
-    let list = demand within (refusal 1) (cond (has_list config) (shared config tuples call) (Refuse (refusal 7))) in
+    let list = demand within (refusal 1) (cond (has_list config) (shared config tuples call) (Err (refusal 7))) in
     judged_by tuples call (demand within (refusal 1) (first_refusal config call (cond (has_list config) list (table_verdict config table call))))
 
 judged-on : (space : Space) (call : Call) → judged space call ≡ judged_on space.config space.count (held space) space.table call

@@ -1,12 +1,10 @@
 -- Document 01, "Calls": what a permitted call answers, and what becomes of the tuples that the space holds.
-use Rattle.std.specs.Prelude.{ℕ, cond, List, length, get_or, ltb, eqb}
+use Rattle.std.specs.Prelude.{ℕ, cond, List, length, get_or, ltb, eqb, None, Option, Some}
 use Rattle.calls.specs.declared.change.Change.{Change}
 use Rattle.calls.specs.declared.change.Change.TheVariants.{Keep, Append, Remove}
 use Rattle.calls.specs.declared.effect.Effect.{Effect}
 use Rattle.tuple.specs.declared.field.Tuple.{Tuple}
 use Rattle.tuple.specs.declared.field.Call.{Call}
-use Rattle.tuple.specs.declared.matching.Found.{Found}
-use Rattle.tuple.specs.declared.matching.Found.TheVariants as found
 use Rattle.tuple.specs.declared.refusal.Refusal.{Refusal}
 use Rattle.tuple.specs.declared.reply.Outcome.{Outcome}
 use Rattle.tuple.specs.declared.reply.Outcome.TheVariants as outcome
@@ -26,17 +24,17 @@ refuses why = answered (outcome.Refused why) blank_tuple Keep
 abbrev pub appends : Outcome → ℕ → Effect
 appends how count = cond (ltb count capacity) (answered how blank_tuple Append) (refuses (refusal 8))
 
-abbrev pub rdp_effect : List Tuple → Found → Effect
-rdp_effect tuples (found.At i) = answered outcome.Found (get_or tuples i blank_tuple) Keep
-rdp_effect tuples found.Nowhere = answered outcome.None blank_tuple Keep
+abbrev pub rdp_effect : List Tuple → Option ℕ → Effect
+rdp_effect tuples (Some i) = answered outcome.Found (get_or tuples i blank_tuple) Keep
+rdp_effect tuples None = answered outcome.None blank_tuple Keep
 
-abbrev pub inp_effect : List Tuple → Found → Effect
-inp_effect tuples (found.At i) = answered outcome.Found (get_or tuples i blank_tuple) (Remove i)
-inp_effect tuples found.Nowhere = answered outcome.None blank_tuple Keep
+abbrev pub inp_effect : List Tuple → Option ℕ → Effect
+inp_effect tuples (Some i) = answered outcome.Found (get_or tuples i blank_tuple) (Remove i)
+inp_effect tuples None = answered outcome.None blank_tuple Keep
 
-abbrev pub cas_effect : List Tuple → Found → Effect
-cas_effect tuples (found.At i) = answered outcome.Held (get_or tuples i blank_tuple) Keep
-cas_effect tuples found.Nowhere = appends outcome.Inserted (length tuples)
+abbrev pub cas_effect : List Tuple → Option ℕ → Effect
+cas_effect tuples (Some i) = answered outcome.Held (get_or tuples i blank_tuple) Keep
+cas_effect tuples None = appends outcome.Inserted (length tuples)
 
 -- 1 out, 2 rdp, 3 inp, 4 cas
 unfoldable pub effect : List Tuple → Call → Effect
@@ -48,15 +46,15 @@ effect tuples call =
 
 -- ---- by what was found
 
--- rdp, inp and cas by the oldest tuple that matches and its place, or a blank one; `count` is how many tuples are held
-abbrev pub found_effect : ℕ → ℕ → Tuple → Found → Effect
-found_effect code count tuple (found.At i) =
+-- rdp, inp and cas by the oldest tuple that matches and its place; where there is none a blank one is answered. `count` is how many tuples are held
+abbrev pub found_effect : ℕ → ℕ → Option (ℕ × Tuple) → Effect
+found_effect code count (Some (i, tuple)) =
     cond (eqb code rdp) (answered outcome.Found tuple Keep)
     (cond (eqb code inp) (answered outcome.Found tuple (Remove i)) (answered outcome.Held tuple Keep))
-found_effect code count tuple found.Nowhere =
-    cond (eqb code rdp) (answered outcome.None tuple Keep)
-    (cond (eqb code inp) (answered outcome.None tuple Keep) (appends outcome.Inserted count))
+found_effect code count None =
+    cond (eqb code rdp) (answered outcome.None blank_tuple Keep)
+    (cond (eqb code inp) (answered outcome.None blank_tuple Keep) (appends outcome.Inserted count))
 
 -- an out looks for none
-unfoldable pub effect_by : ℕ → ℕ → Tuple → Found → Effect
-effect_by code count tuple found = cond (eqb code out) (appends outcome.Done count) (found_effect code count tuple found)
+unfoldable pub effect_by : ℕ → ℕ → Option (ℕ × Tuple) → Effect
+effect_by code count found = cond (eqb code out) (appends outcome.Done count) (found_effect code count found)

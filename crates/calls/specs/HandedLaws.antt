@@ -1,9 +1,8 @@
 -- Boards that no run makes, which may be handed in all the same: what policies 4 and 5 say there, row by row; under 2 and 3 such boards are refused 1. n is 4 and t is 1; under policy 3 k is 2.
-use Rattle.std.specs.Prelude.{◌≡◌, ℕ, List, [], ◌∷◌, map}
+use Rattle.std.specs.Prelude.{◌≡◌, ℕ, List, [], ◌∷◌, map, Err, Ok}
 use Rattle.calls.specs.Lists.{list_for, list_cas, announce_out}
 use Rattle.calls.specs.Turns.{applied}
-use Rattle.policy.specs.declared.verdicts.Verdict.{Verdict}
-use Rattle.policy.specs.declared.verdicts.Verdict.TheVariants.{Permit, Refuse}
+use Rattle.tuple.specs.Refusals.{Verdict}
 use Rattle.policy.specs.Policies.{verdict_on}
 use Rattle.space.specs.declared.config.Config.{Config}
 use Rattle.space.specs.Spaces.{space_of}
@@ -47,14 +46,14 @@ outside_calls = list_cas 1 1 8 81 ∷ list_cas 1 2 8 81 ∷ list_cas 1 201 8 81 
 
 abbrev pub outside_said : List Verdict
 outside_said =
-    Permit
-    ∷ Refuse (refusal 7)
-    ∷ Refuse (refusal 7)
-    ∷ Refuse (refusal 7)
-    ∷ Refuse (refusal 7)
-    ∷ Refuse (refusal 7)
-    ∷ Refuse (refusal 7)
-    ∷ Permit
+    (Ok tt)
+    ∷ Err (refusal 7)
+    ∷ Err (refusal 7)
+    ∷ Err (refusal 7)
+    ∷ Err (refusal 7)
+    ∷ Err (refusal 7)
+    ∷ Err (refusal 7)
+    ∷ (Ok tt)
     ∷ []
 
 -- ---- policy 5 alone
@@ -79,11 +78,11 @@ pub record HandedRows : Type 0 where
   pub outside-five : said_on (under 5 0) outside outside_calls ≡ outside_said
   -- the first may be listed, by another caller, and neither the second nor anything else; a third announcement is 7
   pub two-stand : said_on (under 5 0) twice (list_for 2 1 1 7 80 ∷ list_for 2 1 1 8 81 ∷ list_cas 1 1 8 81 ∷ list_cas 2 1 1 81 ∷ announce_out 1 9 81 ∷ [])
-      ≡ Permit ∷ Refuse (refusal 7) ∷ Refuse (refusal 7) ∷ Refuse (refusal 7) ∷ Refuse (refusal 7) ∷ []
+      ≡ (Ok tt) ∷ Err (refusal 7) ∷ Err (refusal 7) ∷ Err (refusal 7) ∷ Err (refusal 7) ∷ []
   -- the one with the mark is none: the other is the oldest; and where it stands alone, its process may announce
-  pub mark-first : said_on (under 5 0) mark_first (list_for 2 1 1 7 80 ∷ list_for 2 1 1 9 0 ∷ announce_out 1 8 81 ∷ []) ≡ Permit ∷ Refuse (refusal 7) ∷ Refuse (refusal 7) ∷ []
-  pub mark-alone : said_on (under 5 0) (announcement 1 9 0 ∷ []) (announce_out 1 8 81 ∷ list_cas 2 1 1 81 ∷ []) ≡ Permit ∷ Permit ∷ []
+  pub mark-first : said_on (under 5 0) mark_first (list_for 2 1 1 7 80 ∷ list_for 2 1 1 9 0 ∷ announce_out 1 8 81 ∷ []) ≡ (Ok tt) ∷ Err (refusal 7) ∷ Err (refusal 7) ∷ []
+  pub mark-alone : said_on (under 5 0) (announcement 1 9 0 ∷ []) (announce_out 1 8 81 ∷ list_cas 2 1 1 81 ∷ []) ≡ (Ok tt) ∷ (Ok tt) ∷ []
   -- the oldest is listed, with whatever shift: a caller's own entry may be listed, and by another caller neither announcement; the second only by its own
   -- process, as an entry of its own
   pub listed-stands : said_on (under 5 0) listed_first (list_cas 2 5 1 81 ∷ list_for 2 5 1 7 80 ∷ list_for 2 5 1 8 81 ∷ list_cas 1 5 8 81 ∷ [])
-      ≡ Permit ∷ Refuse (refusal 7) ∷ Refuse (refusal 7) ∷ Permit ∷ []
+      ≡ (Ok tt) ∷ Err (refusal 7) ∷ Err (refusal 7) ∷ (Ok tt) ∷ []

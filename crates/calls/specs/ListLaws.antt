@@ -1,10 +1,9 @@
 -- What policies 4 and 5 make of every list of calls from a fresh space, and policy 4 of a space handed in (`HandedIns`), as claims over the definitions, in
 -- document 02's words.
-use Rattle.std.specs.Prelude.{◌≡◌, true, ◌↔◌, ◌⊎◌, ℕ, ◌+◌, ◌-◌, ◌≤◌, ◌<◌, length, take, get_or, ℤ, pos, negsuc, ◌+ℤ◌}
+use Rattle.std.specs.Prelude.{◌≡◌, true, ◌↔◌, ◌⊎◌, ℕ, ◌+◌, ◌-◌, ◌≤◌, ◌<◌, length, take, get_or, ℤ, pos, negsuc, ◌+ℤ◌, Err, Ok}
 use mathlib.Core.List.{List, [], ◌∷◌, ◌++◌, Memᴰ}
 use Rattle.calls.specs.Lists.{list_after, list_for, list_cas, announce_out, OwnCas, ListedBy, Read, ReadTo, shift_of, shift_sum, Told, Standing, ListedWithin}
 use Rattle.calls.specs.Turns.{applied, turns, last}
-use Rattle.policy.specs.declared.verdicts.Verdict.TheVariants.{Permit, Refuse}
 use Rattle.policy.specs.Listing.{preferred}
 use Rattle.policy.specs.Policies.{verdict_on}
 use Rattle.space.specs.declared.config.Config.{Config}
@@ -109,10 +108,10 @@ TakenRule =
 -- a space handed in may hold what no run makes, and that is listed and stands before as it is: where (position 1, process 1, serial 1, 40) and (position 3,
 -- process 9, serial 1, bottom) stand, the positions 2 and 4 are both permitted, and neither 5 nor serial 1 of process 9
 pub record HandedIn (config : Config) : Type 0 where
-  pub second : verdict_on config (list_tuple 1 1 1 81 ∷ list_tuple 3 9 1 0 ∷ []) (list_cas 1 2 2 81) ≡ Permit
-  pub fourth : verdict_on config (list_tuple 1 1 1 81 ∷ list_tuple 3 9 1 0 ∷ []) (list_cas 1 4 2 81) ≡ Permit
-  pub fifth : verdict_on config (list_tuple 1 1 1 81 ∷ list_tuple 3 9 1 0 ∷ []) (list_cas 1 5 2 81) ≡ Refuse (refusal 7)
-  pub again : verdict_on config (list_tuple 1 1 1 81 ∷ list_tuple 3 9 1 0 ∷ []) (list_cas 9 4 1 81) ≡ Refuse (refusal 7)
+  pub second : verdict_on config (list_tuple 1 1 1 81 ∷ list_tuple 3 9 1 0 ∷ []) (list_cas 1 2 2 81) ≡ Ok tt
+  pub fourth : verdict_on config (list_tuple 1 1 1 81 ∷ list_tuple 3 9 1 0 ∷ []) (list_cas 1 4 2 81) ≡ Ok tt
+  pub fifth : verdict_on config (list_tuple 1 1 1 81 ∷ list_tuple 3 9 1 0 ∷ []) (list_cas 1 5 2 81) ≡ Err (refusal 7)
+  pub again : verdict_on config (list_tuple 1 1 1 81 ∷ list_tuple 3 9 1 0 ∷ []) (list_cas 9 4 1 81) ≡ Err (refusal 7)
 
 abbrev pub HandedIns : Type 0
 HandedIns = (config : Config) → config.policy ≡ 4 → HandedIn config

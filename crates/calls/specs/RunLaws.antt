@@ -1,17 +1,16 @@
 -- The laws of lists of calls from a fresh space, as claims over the definitions.
-use Rattle.std.specs.Prelude.{◌≡◌, true, false, ◌↔◌, ◌⊎◌, ℕ, ◌+◌, ◌≤◌, ◌<◌, length, get_or}
+use Rattle.std.specs.Prelude.{◌≡◌, true, false, ◌↔◌, ◌⊎◌, ℕ, ◌+◌, ◌≤◌, ◌<◌, length, get_or, Ok}
 use mathlib.Core.List.{List, [], ◌∷◌, ◌++◌, Memᴰ}
 use Rattle.calls.specs.Counts.{addition, removal, additions, removals}
 use Rattle.calls.specs.Effects.{refuses}
 use Rattle.calls.specs.Turns.{Turn, searched, judged, carried_by, applied, turns, unchecked_from, last}
-use Rattle.policy.specs.declared.verdicts.Verdict.TheVariants.{Permit}
 use Rattle.policy.specs.Policies.{verdict_on}
 use Rattle.policy.specs.Shapes.{is_weak_entry, is_decision, decided_code}
 use Rattle.space.specs.declared.config.Config.{Config}
 use Rattle.space.specs.declared.space.Space.{Space}
 use Rattle.space.specs.Configs.{sound, has_proposals}
 use Rattle.space.specs.Shapes.{round_of, is_proposal, process_of}
-use Rattle.space.specs.Spaces.{held, space_of, well_formed, fresh_of, Entries}
+use Rattle.space.specs.Spaces.{held, space_of, well_formed, fresh_space, Entries}
 use Rattle.space.specs.Tables.{table_of, tabled}
 use Rattle.tuple.specs.declared.field.Tuple.{Tuple}
 use Rattle.tuple.specs.declared.field.Call.{Call}
@@ -26,7 +25,7 @@ JudgedFound = (space : Space) (call : Call) → well_formed space ≡ true → j
 
 -- without the test of each place, calls from a fresh space make the same turns
 abbrev pub Unchecked : Type 0
-Unchecked = (config : Config) (calls : List Call) → unchecked_from (fresh_of config).space calls ≡ turns config calls
+Unchecked = (config : Config) (calls : List Call) → unchecked_from (fresh_space config) calls ≡ turns config calls
 
 -- what is judged without that test, on any space. Out of bounds it is 1. Within them, with 256 places, entries at those below the count, and the table of
 -- these, a call does what `applied` does on the space of these tuples, whatever stands behind them
@@ -73,7 +72,7 @@ NeverFull =
 
 -- the policy permits no inp: so it is under policies 1 to 4 (`InpRule`)
 abbrev pub NoInp : Config → Type 0
-NoInp config = (tuples : List Tuple) (call : Call) → call.code ≡ 3 → verdict_on config tuples call ≡ Permit → ⊥
+NoInp config = (tuples : List Tuple) (call : Call) → call.code ≡ 3 → verdict_on config tuples call ≡ Ok tt → ⊥
 
 -- under such a policy nothing leaves: what is held stays, in its order
 abbrev pub NothingLeaves : Type 0
@@ -113,7 +112,7 @@ pub record Borne (config : Config) (calls : List Call) (tuple : Tuple) : Type 0 
   pub code : call.code ≡ 4
   pub entry : call.entry ≡ tuple
   pub inserted : (applied (last config before) call).reply.outcome ≡ Inserted
-  pub permitted : verdict_on config (held (last config before)) call ≡ Permit
+  pub permitted : verdict_on config (held (last config before)) call ≡ Ok tt
 
 pub record JustifiedRule (config : Config) (calls : List Call) : Type 0 where
   -- at most one proposal per round and process, each put by that process's own done out

@@ -1,19 +1,16 @@
 -- Document 01, "What is returned, and for what": a call on a space, the refusals in their order, and lists of calls.
-use Rattle.std.specs.Prelude.{cond, List, [], ◌∷◌}
+use Rattle.std.specs.Prelude.{cond, List, [], ◌∷◌, Err, Ok}
 use Rattle.calls.specs.declared.effect.Effect.{Effect}
 use Rattle.calls.specs.declared.turn.Applied.{Applied}
 use Rattle.calls.specs.Changes.{carried_out}
 use Rattle.calls.specs.Effects.{refuses, effect}
-use Rattle.policy.specs.declared.verdicts.Verdict.{Verdict}
-use Rattle.policy.specs.declared.verdicts.Verdict.TheVariants.{Permit, Refuse}
+use Rattle.tuple.specs.Refusals.{Verdict}
 use Rattle.policy.specs.Policies.{verdict_on, verdict}
 use Rattle.policy.specs.Verdicts.{demand}
 use Rattle.space.specs.declared.config.Config.{Config}
 use Rattle.space.specs.declared.space.Space.{Space}
 use Rattle.space.specs.Configs.{known}
-use Rattle.space.specs.Spaces.{held, bounded, well_formed, fresh_of}
-use Rattle.tuple.specs.declared.fault.Fault.{Fault}
-use Rattle.tuple.specs.declared.fault.Fault.TheVariants.{Absent, Present}
+use Rattle.space.specs.Spaces.{held, bounded, well_formed, fresh_space}
 use Rattle.tuple.specs.declared.field.Tuple.{Tuple}
 use Rattle.tuple.specs.declared.field.Call.{Call}
 use Rattle.tuple.specs.declared.reply.Reply.{Reply}
@@ -23,9 +20,9 @@ use Rattle.tuple.specs.Refusals.{refusal}
 -- ---- one call
 
 -- a fault is refused; where there is none comes what is asked next
-abbrev pub behind_fault : Fault → Verdict → Verdict
-behind_fault Absent next = next
-behind_fault (Present why) next = Refuse why
+abbrev pub behind_fault : Verdict → Verdict → Verdict
+behind_fault (Ok _) next = next
+behind_fault (Err why) next = Err why
 
 -- process 0 or one above n is refused 6; of any other comes what is asked next
 abbrev pub behind_stranger : Config → Call → Verdict → Verdict
@@ -37,8 +34,8 @@ first_refusal config call verdict = behind_fault (call_fault call) (demand (know
 
 -- what is refused changes nothing; a permitted call does what it does to the tuples held, where it may be refused 8
 abbrev pub judged_by : List Tuple → Call → Verdict → Effect
-judged_by tuples call Permit = effect tuples call
-judged_by tuples call (Refuse why) = refuses why
+judged_by tuples call (Ok _) = effect tuples call
+judged_by tuples call (Err why) = refuses why
 
 -- the reply, and what becomes of the tuples, by a search of the tuples held
 unfoldable pub searched : Space → Call → Effect
@@ -73,7 +70,7 @@ turns_from space (call ∷ calls) =
 
 -- from a fresh space, under any policy
 unfoldable pub turns : Config → List Call → List Turn
-turns config calls = turns_from (fresh_of config).space calls
+turns config calls = turns_from (fresh_space config) calls
 
 -- the same without the test of each place of a space
 unfoldable pub unchecked_from : Space → List Call → List Turn
@@ -92,4 +89,4 @@ abbrev pub after : Space → List Call → Space
 after space calls = last_of space (turns_from space calls)
 
 abbrev pub last : Config → List Call → Space
-last config calls = after (fresh_of config).space calls
+last config calls = after (fresh_space config) calls

@@ -5,7 +5,7 @@ ghost use Rattle.space.specs.Spaces.{held};
 
 use crate::change::Change;
 use space::Space;
-use tuple::{Call, Found, INP, OUT, Outcome, RDP, Refusal, Reply, TUPLES, Tuple};
+use tuple::{Call, INP, OUT, Outcome, RDP, Refusal, Reply, TUPLES, Tuple};
 
 // The reply to a call, and what becomes of the tuples.
 #[derive(Clone, Copy)]
@@ -19,44 +19,32 @@ pub(crate) fn perform(space: Space, call: Call) -> Effect
     ensures { result ≡ effect· (held space) call }
 {
     let code = call.code;
-    let template = call.template;
     let count = space.count;
     if code == OUT {
-        return effect_of(code, count, Tuple::blank(), Found::Nowhere);
+        return effect_of(code, count, None);
     }
-    let tuples = space.tuples;
-    let oldest = tuple::oldest(tuples, count, template);
-    let found = oldest.found;
-    let tuple = oldest.tuple;
-    effect_of(code, count, tuple, found)
+    let held = &space.tuples[..count.min(TUPLES)];
+    effect_of(code, count, tuple::oldest(held, call.template))
 }
 
-// What a permitted call of a code does to so many tuples, by the oldest tuple that matches and its place, or a blank one. An out looks for none.
-pub fn effect_of(code: u32, count: usize, tuple: Tuple, found: Found) -> Effect
-    ensures { result ≡ effect_by code count tuple found }
+// What a permitted call of a code does to so many tuples, by the oldest tuple that matches and its place. An out looks for none.
+#[tactic(auto, unfolding(crate::specs::Effects::effect_by))]
+pub fn effect_of(code: u32, count: usize, found: Option<(usize, Tuple)>) -> Effect
+    ensures { result ≡ effect_by code count found }
 {
     if code == OUT {
         return appends(count, Outcome::Done);
     }
     match found {
-        Found::At(i) => {
-            if code == RDP {
-                return answered(Outcome::Found, tuple, Change::Keep);
-            }
-            if code == INP {
-                return answered(Outcome::Found, tuple, Change::Remove(i));
-            }
-            answered(Outcome::Held, tuple, Change::Keep)
-        }
-        Found::Nowhere => {
-            if code == RDP {
-                return answered(Outcome::None, tuple, Change::Keep);
-            }
-            if code == INP {
-                return answered(Outcome::None, tuple, Change::Keep);
-            }
-            appends(count, Outcome::Inserted)
-        }
+        Some((i, tuple)) => match code {
+            RDP => answered(Outcome::Found, tuple, Change::Keep),
+            INP => answered(Outcome::Found, tuple, Change::Remove(i)),
+            _ => answered(Outcome::Held, tuple, Change::Keep),
+        },
+        None => match code {
+            RDP | INP => answered(Outcome::None, Tuple::blank(), Change::Keep),
+            _ => appends(count, Outcome::Inserted),
+        },
     }
 }
 

@@ -5,9 +5,9 @@ ghost use Rattle.policy.specs.Policies.{list_verdict, verdict, lent_verdict};
 
 use crate::change::{Change, carry_out_unchecked};
 use crate::effect::{Effect, perform, refused};
-use policy::{Verdict, lent_verdict, list_verdict};
+use policy::{lent_verdict, list_verdict};
 use space::{Config, PLACES, Space, is_bounded};
-use tuple::{Call, Fault, Refusal, Reply};
+use tuple::{Call, Refusal, Reply, Verdict};
 
 // What a call on a space answers, and the space afterwards.
 #[derive(Clone, Copy)]
@@ -25,39 +25,37 @@ pub fn apply(space: Space, call: Call) -> Applied
     } else {
         refused(Refusal::Unsound)
     };
-    let reply = effect.reply;
-    let change = effect.change;
-    let entry = call.entry;
-    let next = if let Change::Keep = change {
-        space
-    } else {
-        carry_out_unchecked(space, entry, change)
+    let next = match effect.change {
+        Change::Keep => space,
+        change => carry_out_unchecked(space, call.entry, change),
     };
-    Applied { reply, space: next }
+    Applied {
+        reply: effect.reply,
+        space: next,
+    }
 }
 
 // What a call on a space is answered, and what becomes of the tuples, by its table. Of the space the configuration and the count are tested, and not its places
 // or its table: who may hand in what, and what is promised of it, is in docs/DECISIONS.md, "Functions that leave a test out".
+#[tactic(auto, unfolding(crate::specs::Turns::judged, space::specs::Spaces::bounded))]
 pub fn judge_unchecked(space: Space, call: Call) -> Effect
     ensures { result ≡ judged space call }
 {
     if !is_bounded(space.config, space.count) {
         return refused(Refusal::Unsound);
     }
-    let first = first_refusal(space, call);
-    match first {
-        Verdict::Refuse(refusal) => refused(refusal),
-        Verdict::Permit => perform(space, call),
+    match first_refusal(space, call) {
+        Err(refusal) => refused(refusal),
+        Ok(()) => perform(space, call),
     }
 }
 
 // The first refusal that a call meets, of 3 to 7, 12 and 13.
+#[tactic(auto, unfolding(crate::specs::Turns::first_refusal, policy::specs::Policies::verdict, policy::specs::Policies::lent_verdict))]
 fn first_refusal(space: Space, call: Call) -> Verdict
     ensures { result ≡ first_refusal space.config call (verdict space call) }
 {
-    if let Fault::Present(refusal) = call.fault() {
-        return Verdict::Refuse(refusal);
-    }
+    call.fault()?;
     if space.config.has_list() {
         return list_refusal(space, call);
     }
@@ -68,8 +66,8 @@ fn first_refusal(space: Space, call: Call) -> Verdict
 pub fn lent_refusal(config: Config, table: &[u64; PLACES], call: Call) -> Verdict
     ensures { result ≡ behind_stranger config call (lent_verdict config table.now call) }
 {
-    if !config.knows(call.process as u64) {
-        return Verdict::Refuse(Refusal::Stranger);
+    if !config.knows(u64::from(call.process)) {
+        return Err(Refusal::Stranger);
     }
     lent_verdict(config, table, call)
 }
@@ -78,8 +76,8 @@ pub fn lent_refusal(config: Config, table: &[u64; PLACES], call: Call) -> Verdic
 pub fn list_refusal(space: Space, call: Call) -> Verdict
     ensures { result ≡ behind_stranger space.config call (list_verdict space call) }
 {
-    if !space.config.knows(call.process as u64) {
-        return Verdict::Refuse(Refusal::Stranger);
+    if !space.config.knows(u64::from(call.process)) {
+        return Err(Refusal::Stranger);
     }
     list_verdict(space, call)
 }

@@ -10,8 +10,7 @@ use borrow.Author.Tests.{le-leb, lt-leb, leb-true, leb-false, eqb-true, eqb-fals
 use borrow.Table.Steps.{cases}
 use Rattle.dump.specs.Dumps.{dump_bytes, is_reached, written_of, left_of}
 use Rattle.dump.specs.Laws.{UnsoundRule, UnscriptedRule, NoRoomRule, Stored, BufferRules}
-use Rattle.record.specs.declared.writer.Recorded.{Recorded}
-use Rattle.record.specs.declared.writer.Recorded.TheVariants.{Length, Unwritten}
+use Rattle.std.specs.Prelude.{Err, Ok, Result}
 use Rattle.record.proofs.WrittenLaws.{replaced}
 use Rattle.space.specs.declared.space.Space.{Space}
 use Rattle.space.specs.Spaces.{well_formed}
@@ -21,34 +20,34 @@ use Rattle.tuple.specs.Refusals.{refusal}
 -- ---- the answer of each test
 
 module _ (space : Space) (room : ℕ) where
-  pub unsound-answer : well_formed space ≡ false → written_of space room ≡ Unwritten (refusal 1)
+  pub unsound-answer : well_formed space ≡ false → written_of space room ≡ Err (refusal 1)
   unfolding written_of
   unsound-answer formed = rw formed
 
-  pub unscripted-answer : well_formed space ≡ true → space.config.policy ≡ 5 → written_of space room ≡ Unwritten (refusal 15)
+  pub unscripted-answer : well_formed space ≡ true → space.config.policy ≡ 5 → written_of space room ≡ Err (refusal 15)
   unfolding written_of
   unscripted-answer formed five = rw (formed, eq-eqb space.config.policy 5 five)
 
-  pub unreached-answer : well_formed space ≡ true → (space.config.policy ≡ 5 → ⊥) → is_reached space ≡ false → written_of space room ≡ Unwritten (refusal 14)
+  pub unreached-answer : well_formed space ≡ true → (space.config.policy ≡ 5 → ⊥) → is_reached space ≡ false → written_of space room ≡ Err (refusal 14)
   unfolding written_of
   unreached-answer formed other reached = rw (formed, ne_eqb space.config.policy 5 other, reached)
 
-  pub full-answer : well_formed space ≡ true → (space.config.policy ≡ 5 → ⊥) → is_reached space ≡ true → room < length (dump_bytes space) → written_of space room ≡ Unwritten (refusal 10)
+  pub full-answer : well_formed space ≡ true → (space.config.policy ≡ 5 → ⊥) → is_reached space ≡ true → room < length (dump_bytes space) → written_of space room ≡ Err (refusal 10)
   unfolding written_of
   full-answer formed other reached full = rw (formed, ne_eqb space.config.policy 5 other, reached, lt-leb (length (dump_bytes space)) room full)
 
-  pub whole-answer : well_formed space ≡ true → (space.config.policy ≡ 5 → ⊥) → is_reached space ≡ true → length (dump_bytes space) ≤ room → written_of space room ≡ Length (length (dump_bytes space))
+  pub whole-answer : well_formed space ≡ true → (space.config.policy ≡ 5 → ⊥) → is_reached space ≡ true → length (dump_bytes space) ≤ room → written_of space room ≡ Ok (length (dump_bytes space))
   unfolding written_of
   whole-answer formed other reached fits = rw (formed, ne_eqb space.config.policy 5 other, reached, le-leb (length (dump_bytes space)) room fits)
 
 -- ---- the tests of each answer
 
-pub data Answers (space : Space) (room : ℕ) : Recorded → Type 0 where
-  unsound : well_formed space ≡ false → Answers space room (Unwritten (refusal 1))
-  unscripted : well_formed space ≡ true → space.config.policy ≡ 5 → Answers space room (Unwritten (refusal 15))
-  unreached : (space.config.policy ≡ 5 → ⊥) → is_reached space ≡ false → Answers space room (Unwritten (refusal 14))
-  full : well_formed space ≡ true → (space.config.policy ≡ 5 → ⊥) → is_reached space ≡ true → room < length (dump_bytes space) → Answers space room (Unwritten (refusal 10))
-  written : well_formed space ≡ true → (space.config.policy ≡ 5 → ⊥) → is_reached space ≡ true → length (dump_bytes space) ≤ room → Answers space room (Length (length (dump_bytes space)))
+pub data Answers (space : Space) (room : ℕ) : Result ℕ Refusal → Type 0 where
+  unsound : well_formed space ≡ false → Answers space room (Err (refusal 1))
+  unscripted : well_formed space ≡ true → space.config.policy ≡ 5 → Answers space room (Err (refusal 15))
+  unreached : (space.config.policy ≡ 5 → ⊥) → is_reached space ≡ false → Answers space room (Err (refusal 14))
+  full : well_formed space ≡ true → (space.config.policy ≡ 5 → ⊥) → is_reached space ≡ true → room < length (dump_bytes space) → Answers space room (Err (refusal 10))
+  written : well_formed space ≡ true → (space.config.policy ≡ 5 → ⊥) → is_reached space ≡ true → length (dump_bytes space) ≤ room → Answers space room (Ok (length (dump_bytes space)))
 
 pub answers : (space : Space) (room : ℕ) → Answers space room (written_of space room)
 answers space room =
@@ -72,17 +71,17 @@ pub record Fits (space : Space) (room n : ℕ) : Type 0 where
   pub inside : n ≤ room
 
 module _ (space : Space) (room : ℕ) where
-  fits_by : {answer : Recorded} → Answers space room answer → (n : ℕ) → answer ≡ Length n → Fits space room n
+  fits_by : {answer : (Result ℕ Refusal)} → Answers space room answer → (n : ℕ) → answer ≡ Ok n → Fits space room n
   fits_by (unsound w) n e = let z : ◌≡◌ {A = ℕ} 0 1 = cc in absurd (omega arith)
   fits_by (unscripted w p) n e = let z : ◌≡◌ {A = ℕ} 0 1 = cc in absurd (omega arith)
   fits_by (unreached o r) n e = let z : ◌≡◌ {A = ℕ} 0 1 = cc in absurd (omega arith)
   fits_by (full w o r f) n e = let z : ◌≡◌ {A = ℕ} 0 1 = cc in absurd (omega arith)
   fits_by (written w o r f) n e = let same : n ≡ length (dump_bytes space) = cc in record { formed = w; other = o; reached = r; same = same; inside = omega arith }
 
-  pub fits : (n : ℕ) → written_of space room ≡ Length n → Fits space room n
+  pub fits : (n : ℕ) → written_of space room ≡ Ok n → Fits space room n
   fits n e = fits_by (answers space room) n e
 
-  refused-by : {answer : Recorded} → Answers space room answer → answer ≡ Unwritten (refusal 14) → (space.config.policy ≡ 5 → ⊥) × (is_reached space ≡ false)
+  refused-by : {answer : (Result ℕ Refusal)} → Answers space room answer → answer ≡ Err (refusal 14) → (space.config.policy ≡ 5 → ⊥) × (is_reached space ≡ false)
   refused-by (unsound w) e = let z : ◌≡◌ {A = ℕ} 0 1 = cc in absurd (omega arith)
   refused-by (unscripted w p) e = let z : ◌≡◌ {A = ℕ} 0 1 = cc in absurd (omega arith)
   refused-by (unreached o r) e = (o, r)
@@ -90,24 +89,24 @@ module _ (space : Space) (room : ℕ) where
   refused-by (written w o r f) e = let z : ◌≡◌ {A = ℕ} 0 1 = cc in absurd (omega arith)
 
   -- 14 comes of a space that is not reached alone, of another policy than 5
-  pub refused-unreached : written_of space room ≡ Unwritten (refusal 14) → (space.config.policy ≡ 5 → ⊥) × (is_reached space ≡ false)
+  pub refused-unreached : written_of space room ≡ Err (refusal 14) → (space.config.policy ≡ 5 → ⊥) × (is_reached space ≡ false)
   refused-unreached e = refused-by (answers space room) e
 
-  unsound-by : {answer : Recorded} → Answers space room answer → answer ≡ Unwritten (refusal 1) → well_formed space ≡ false
+  unsound-by : {answer : (Result ℕ Refusal)} → Answers space room answer → answer ≡ Err (refusal 1) → well_formed space ≡ false
   unsound-by (unsound w) e = w
   unsound-by (unscripted w p) e = let z : ◌≡◌ {A = ℕ} 0 1 = cc in absurd (omega arith)
   unsound-by (unreached o r) e = let z : ◌≡◌ {A = ℕ} 0 1 = cc in absurd (omega arith)
   unsound-by (full w o r f) e = let z : ◌≡◌ {A = ℕ} 0 1 = cc in absurd (omega arith)
   unsound-by (written w o r f) e = let z : ◌≡◌ {A = ℕ} 0 1 = cc in absurd (omega arith)
 
-  unscripted-by : {answer : Recorded} → Answers space room answer → answer ≡ Unwritten (refusal 15) → (well_formed space ≡ true) × (space.config.policy ≡ 5)
+  unscripted-by : {answer : (Result ℕ Refusal)} → Answers space room answer → answer ≡ Err (refusal 15) → (well_formed space ≡ true) × (space.config.policy ≡ 5)
   unscripted-by (unsound w) e = let z : ◌≡◌ {A = ℕ} 0 1 = cc in absurd (omega arith)
   unscripted-by (unscripted w p) e = (w, p)
   unscripted-by (unreached o r) e = let z : ◌≡◌ {A = ℕ} 0 1 = cc in absurd (omega arith)
   unscripted-by (full w o r f) e = let z : ◌≡◌ {A = ℕ} 0 1 = cc in absurd (omega arith)
   unscripted-by (written w o r f) e = let z : ◌≡◌ {A = ℕ} 0 1 = cc in absurd (omega arith)
 
-  no-room-by : {answer : Recorded} → Answers space room answer → answer ≡ Unwritten (refusal 10)
+  no-room-by : {answer : (Result ℕ Refusal)} → Answers space room answer → answer ≡ Err (refusal 10)
       → (well_formed space ≡ true) × (space.config.policy ≡ 5 → ⊥) × (is_reached space ≡ true) × (room < length (dump_bytes space))
   no-room-by (unsound w) e = let z : ◌≡◌ {A = ℕ} 0 1 = cc in absurd (omega arith)
   no-room-by (unscripted w p) e = let z : ◌≡◌ {A = ℕ} 0 1 = cc in absurd (omega arith)
@@ -128,15 +127,15 @@ no-room-rule space room = (λ e. no-room-by space room (answers space room) e, �
 
 module _ (space : Space) (buffer : List ℕ) where
   -- what a length leaves, and a refusal
-  pub left-written : (n : ℕ) → written_of space (length buffer) ≡ Length n → left_of space buffer ≡ dump_bytes space ++ drop n buffer
+  pub left-written : (n : ℕ) → written_of space (length buffer) ≡ Ok n → left_of space buffer ≡ dump_bytes space ++ drop n buffer
   unfolding left_of
   left-written n e = rw e
 
-  pub left-refused : (why : Refusal) → written_of space (length buffer) ≡ Unwritten why → left_of space buffer ≡ buffer
+  pub left-refused : (why : Refusal) → written_of space (length buffer) ≡ Err why → left_of space buffer ≡ buffer
   unfolding left_of
   left-refused why e = rw e
 
-  stored : (n : ℕ) → written_of space (length buffer) ≡ Length n → Stored space buffer n
+  stored : (n : ℕ) → written_of space (length buffer) ≡ Ok n → Stored space buffer n
   stored n e =
       let fit = fits space (length buffer) n e in
       let left = left-written n e in

@@ -11,7 +11,7 @@ use Rattle.record.specs.Heads.{head_number}
 use Rattle.record.specs.Writing.{field_bytes, fields_bytes, tuple_bytes, part_bytes, call_bytes, Typed}
 use Rattle.record.proofs.NumberLaws.{kind-most}
 use Rattle.script.specs.Scripts.{records_bytes}
-use Rattle.tuple.specs.declared.fault.Fault.TheVariants.{Absent}
+use Rattle.std.specs.Prelude.{Ok}
 use Rattle.tuple.specs.declared.field.Field.{Field}
 use Rattle.tuple.specs.declared.field.Tuple.{Tuple}
 use Rattle.tuple.specs.declared.field.Call.{Call}
@@ -57,21 +57,21 @@ field-bytes {field = field} sound =
     both_bytes (bytes_of (head_number field)) _ (number-bytes (head_number field) (omega arith))
     (picked Bytes (is_defined field) (λ d. number-bytes field.value (omega (arith, sound.small d, kind-most field.kind))) (λ d. tt))
 
-fields-bytes : (entry : Bool) (fields : List Field) → fields_fault entry fields ≡ Absent → Bytes (fields_bytes fields)
+fields-bytes : (entry : Bool) (fields : List Field) → fields_fault entry fields ≡ Ok tt → Bytes (fields_bytes fields)
 unfolding fields_bytes
 fields-bytes entry [] h = tt
 fields-bytes entry (field ∷ fields) h =
     let sound = fields-sound entry field fields h in
     both_bytes (field_bytes field) (fields_bytes fields) (field-bytes sound.0) (fields-bytes entry fields sound.1)
 
-part-bytes : (used entry : Bool) (tuple : Tuple) → part_fault tuple used entry ≡ Absent → Bytes (part_bytes used tuple)
+part-bytes : (used entry : Bool) (tuple : Tuple) → part_fault tuple used entry ≡ Ok tt → Bytes (part_bytes used tuple)
 unfolding part_bytes part_fault tuple_bytes
 part-bytes false entry tuple h = tt
 part-bytes true entry tuple h =
     let sound = tuple-sound entry tuple h in
     both_bytes (bytes_of tuple.count) (fields_bytes (take tuple.count tuple.fields)) (number-bytes tuple.count (omega arith)) (fields-bytes entry _ sound.fields)
 
-call-bytes : (call : Call) → Typed call → call_fault call ≡ Absent → Bytes (call_bytes call)
+call-bytes : (call : Call) → Typed call → call_fault call ≡ Ok tt → Bytes (call_bytes call)
 unfolding call_bytes
 call-bytes call typed h =
     let sound = call-sound call h in
@@ -83,7 +83,7 @@ call-bytes call typed h =
 -- calls without fault that the struct's types can hold
 pub record Sound (call : Call) : Type 0 where
   pub typed : Typed call
-  pub faultless : call_fault call ≡ Absent
+  pub faultless : call_fault call ≡ Ok tt
 
 pub records-bytes : (calls : List Call) → ((call : Call) → Memᴰ call calls → Sound call) → Bytes (records_bytes calls)
 unfolding records_bytes

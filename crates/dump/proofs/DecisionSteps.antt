@@ -1,16 +1,18 @@
 -- The template of a tuple's round matches, of the entries that a space holds, exactly the decisions of that round; so a permitted cas with it appends its
 -- entry exactly if none of these stands. From the rules of matching and of entries.
-use mathlib.Core.Path.{◌≡◌, refl, sym}
-use Prim.Native.Nat.{ℕ, ◌+◌, ◌≤◌, ◌<◌}
+use mathlib.Core.Path.{◌≡◌, refl, sym, ap, ◌∙◌}
+use Prim.Native.Nat.{ℕ, ◌+◌, ◌-◌, ◌≤◌, ◌<◌}
 use native.Mathlib.Omega.{arith}
 use mathlib.Core.Bool.{Bool, true, false, false≢true, cond, not, ◌||◌, and-eq-true_iff}
 use mathlib.Core.List.{List, [], ◌∷◌, Memᴰ}
-use lib.ListN.{length, take, drop, get_or}
-use lib.Dec.{eqb}
-use borrow.Author.Tests.{lt-ltb, eqb-true, eq-eqb}
+use lib.ListN.{length, take, drop}
+use lib.Dec.{leb, eqb}
+use borrow.Author.Tests.{lt-ltb, leb-true, leb-false, eqb-true, eq-eqb}
 use borrow.Table.Steps.{cases}
 use Rattle.dump.specs.Appending.{template_of}
 use Rattle.dump.specs.Dumps.{is_appended}
+use Rattle.std.proofs.lemmas.List.{drop-take}
+use Rattle.std.specs.List.{list_any}
 use Rattle.dump.specs.Private.{decides_too}
 use Rattle.calls.specs.Effects.{cas_effect}
 use Rattle.policy.specs.Shapes.{is_weak_entry, is_decision}
@@ -24,7 +26,7 @@ use Rattle.tuple.specs.Forms.{weak_entry_shape, weak_template, decision_shape, d
 use Rattle.tuple.specs.Matching.{matches, oldest_from}
 use Rattle.tuple.specs.Shapes.{field, has_shape}
 use Rattle.tuple.proofs.FaultRules.{entry-rules}
-use Rattle.tuple.proofs.Lists.{drop-take-step, drop-take-end}
+use Rattle.tuple.proofs.Lists.{drop-take-end}
 use Rattle.tuple.proofs.MatchRules.{matches-rule}
 use Rattle.tuple.proofs.ShapeLaws.{shape-parts}
 
@@ -101,6 +103,11 @@ unfoldable pub decided_before : Tuple → List Tuple → Bool
 decided_before tuple [] = false
 decided_before tuple (other ∷ others) = decides_too tuple other || decided_before tuple others
 
+decided-any : (tuple : Tuple) (tuples : List Tuple) → list_any (decides_too tuple) tuples ≡ decided_before tuple tuples
+unfolding decided_before
+decided-any tuple [] = refl
+decided-any tuple (other ∷ others) = ap (λ (rest : Bool). decides_too tuple other || rest) (decided-any tuple others)
+
 pub cas-appends : (tuple : Tuple) (all : List Tuple) → length all < capacity → (tuples : List Tuple) (k : ℕ)
     → ((other : Tuple) → Memᴰ other tuples → matches (template_of tuple) other ≡ decides_too tuple other)
     → is_appended (cas_effect all (oldest_from k tuples (template_of tuple))).reply.outcome ≡ not (decided_before tuple tuples)
@@ -111,18 +118,21 @@ cas-appends tuple all room (other ∷ others) k same =
     (λ e. rw (same other (Memᴰ.head refl), e))
     (λ e. rw (same other (Memᴰ.head refl), e) (cas-appends tuple all room others (k + 1) (λ o m. same o (Memᴰ.tail m))))
 
--- ---- one by one, of the first n of a list
+-- ---- of the first n of a list
 
 module _ (tuple : Tuple) (n : ℕ) (l : List Tuple) where
   pub asked-none : (j : ℕ) → n ≤ j → not (decided_before tuple (drop j (take n l))) ≡ true
   unfolding decided_before
   asked-none j past = rw (drop-take-end n l j (omega arith))
 
-  module _ (j : ℕ) (d : Tuple) (below : j < n) (inside : j < length l) where
-    pub asked_here : decides_too tuple (get_or l j d) ≡ true → not (decided_before tuple (drop j (take n l))) ≡ false
-    unfolding decided_before
-    asked_here e = rw (drop-take-step n l j d below inside, e)
+  part : (j : ℕ) → take (n - j) (drop j l) ≡ drop j (take n l)
+  part j =
+      cases (leb j n)
+      (λ e. let whole : j + (n - j) ≡ n = omega (arith, leb-true j n e) in sym (drop-take j (n - j) l) ∙ ap (λ (k : ℕ). drop j (take k l)) whole)
+      (λ e. let past = leb-false j n e in
+      let none : n - j ≡ 0 = omega arith in
+      ap (λ (k : ℕ). take k (drop j l)) none ∙ sym (drop-take-end n l j (omega arith)))
 
-    pub asked-more : decides_too tuple (get_or l j d) ≡ false → decided_before tuple (drop j (take n l)) ≡ decided_before tuple (drop (j + 1) (take n l))
-    unfolding decided_before
-    asked-more e = rw (drop-take-step n l j d below inside, e)
+  -- from the place j on
+  pub asked-any : (j : ℕ) → list_any (decides_too tuple) (take (n - j) (drop j l)) ≡ decided_before tuple (drop j (take n l))
+  asked-any j = ap (list_any (decides_too tuple)) (part j) ∙ decided-any tuple (drop j (take n l))

@@ -22,9 +22,9 @@ use Rattle.space.specs.Configs.{choice_sound, plain_sound, sound, has_proposals,
 use Rattle.space.specs.Lists.{lists, is_there, is_filled, is_listed}
 use Rattle.space.specs.Members.{beyond, within, every}
 use Rattle.space.specs.Proposals.{is_choice, offered, decidable, proposes, proposed, every_proposed}
-use Rattle.space.specs.Spaces.{space_of, place_sound, places_from, table_sound, bounded, well_formed, fresh_of}
+use Rattle.space.specs.Spaces.{space_of, place_sound, places_from, table_sound, bounded, well_formed, fresh_of, fresh_space}
 use Rattle.space.specs.Tables.{has_place, code_at, belongs, entered, table_from, empty_table, fits_table, tabled_from, same_from}
-use Rattle.tuple.specs.declared.fault.Fault.TheVariants.{Absent, Present}
+use Rattle.std.specs.Prelude.{Err, Ok}
 use Rattle.tuple.specs.Faults.{known_head, field_fault, fields_fault, tuple_fault, part_fault, uses_template, uses_entry, used_fault, is_blank, place_blank, rest_from, rest_blank, call_fault, is_entry}
 use Rattle.tuple.specs.Fields.{largest_of}
 use Rattle.tuple.specs.Matching.{field_matches, fields_match, matches, oldest_from, oldest_of}
@@ -57,14 +57,14 @@ ends = (
     bytes = small_bytes worked_script refl;
     config = worked.config;
     made = turns_from (space_of worked.config []) (records_at worked_script 3).calls;
-    fault = Absent;
+    fault = (Ok tt);
     runs = refl;
   },
   record {
     bytes = small_bytes unread_script refl;
     config = worked.config;
     made = turns_from (space_of worked.config []) (records_at unread_script 3).calls;
-    fault = Present (refusal 4);
+    fault = Err (refusal 4);
     runs = refl;
   },
 )
@@ -82,7 +82,7 @@ unfolding dumps.dump_bytes dumps.dump_calls dumps.written_of dumps.is_reached du
     is_list_call is_new begins follows owed is_due may_list may_announce shared lists is_there is_filled is_listed
     field_bytes fields_bytes tuple_bytes part_bytes call_bytes set_up_bytes records_bytes
     choice_sound plain_sound sound has_proposals has_list known beyond within every is_choice offered decidable proposes proposed every_proposed
-    place_sound places_from table_sound has_place code_at belongs entered table_from empty_table fits_table tabled_from same_from bounded well_formed fresh_of
+    place_sound places_from table_sound has_place code_at belongs entered table_from empty_table fits_table tabled_from same_from bounded well_formed fresh_space
     known_head field_fault fields_fault tuple_fault part_fault uses_template uses_entry used_fault is_blank place_blank rest_from rest_blank call_fault is_entry
     largest_of field_matches fields_match matches oldest_from oldest_of groups_of bytes_of ones has_shape
 answers = refl

@@ -1,10 +1,11 @@
 -- The calls that append the tuples held, from a place on, as a loop over those meets them.
-use mathlib.Core.Path.{◌≡◌, refl, ap}
+use mathlib.Core.Path.{◌≡◌, refl, ap, ◌∙◌}
 use Prim.Native.Nat.{ℕ, ◌+◌, ◌≤◌, ◌<◌}
 use native.Mathlib.Omega.{arith}
 use mathlib.Core.Bool.{true}
 use mathlib.Core.List.{List, [], ◌∷◌, map, Memᴰ}
 use lib.ListN.{length, drop, get_or, length-take}
+use lib.Seq.{get_or-take}
 use Rattle.dump.specs.Dumps.{dump_calls}
 use Rattle.dump.specs.Appending.{call_of}
 use Rattle.space.specs.declared.space.Space.{Space}
@@ -36,6 +37,20 @@ module _ (space : Space) where
 
   pub calls-end : (i : ℕ) → space.count ≤ i → calls_from space i ≡ []
   calls-end i h = ap (map (call_of space.config)) (drop-take-end space.count space.tuples i (omega arith))
+
+  -- a loop over the tuples held: its place, and the tuple there
+  module _ (i : ℕ) where
+    pub held-below : i < length (held space) → i < space.count
+    held-below h = omega (arith, length-take space.count space.tuples)
+
+    pub held-there : i < length (held space) → get_or (held space) i no-tuple ≡ tuple_at space i
+    held-there h = get_or-take space.count space.tuples i no-tuple (held-below h)
+
+    pub held-call : (call : Call) → call ≡ call_of space.config (get_or (held space) i no-tuple) → i < length (held space) → call ≡ call_at space i
+    held-call call said h = said ∙ ap (call_of space.config) (held-there h)
+
+    pub held-past : well_formed space ≡ true → Typed space → length (held space) ≤ i → space.count ≤ i
+    held-past formed typed h = omega (arith, formed-few space formed, typed.tuples, length-take space.count space.tuples)
 
   module _ (typed : Typed space) (formed : well_formed space ≡ true) (i : ℕ) (below : i < space.count) where
     pub inside : i < length space.tuples

@@ -24,7 +24,7 @@ use Rattle.space.specs.declared.config.Config.{Config}
 use Rattle.space.specs.Configs.{sound}
 use Rattle.space.specs.Lists.{listed_process, is_list_tuple, position_of, shift_code}
 use Rattle.space.proofs.ConfigLaws.{sound-range, sound-choices, Deciding, proposals-deciding}
-use Rattle.tuple.specs.declared.fault.Fault.TheVariants.{Absent}
+use Rattle.std.specs.Prelude.{Ok}
 use Rattle.tuple.specs.declared.field.Field.{Field}
 use Rattle.tuple.specs.declared.field.Tuple.{Tuple}
 use Rattle.tuple.specs.declared.field.Call.{Call}
@@ -102,7 +102,7 @@ bare-length kind state f h low some high =
     let none : is_defined f ≡ false = ne_eqb f.state defined (λ e. omega arith) in
     ap length (sym (bytes-bare f none)) ∙ width_one (head_number f) (omega arith)
 
-sound-at : (entry : Bool) (n : ℕ) (fields : List Field) (i : ℕ) → fields_fault entry (take n fields) ≡ Absent → i < n → i < length fields
+sound-at : (entry : Bool) (n : ℕ) (fields : List Field) (i : ℕ) → fields_fault entry (take n fields) ≡ Ok tt → i < n → i < length fields
     → PassedField entry (get_or fields i blank_field)
 sound-at entry zero fields i h below inside = absurd (omega arith)
 sound-at entry (suc n) [] i h below inside = absurd (omega arith)
@@ -112,7 +112,7 @@ sound-at entry (suc n) (f ∷ fields) (suc i) h below inside = sound-at entry n 
 -- ---- tuples
 
 -- so many fields of at most eleven bytes each
-counted-most : (n : ℕ) (tuple : Tuple) → tuple.count ≡ n → n ≤ 4 → tuple_fault true tuple ≡ Absent → length (tuple_bytes tuple) ≤ 45
+counted-most : (n : ℕ) (tuple : Tuple) → tuple.count ≡ n → n ≤ 4 → tuple_fault true tuple ≡ Ok tt → length (tuple_bytes tuple) ≤ 45
 counted-most n tuple counted few h =
     omega (
       arith,
@@ -137,7 +137,7 @@ module _ (tuple : Tuple) (long : length tuple.fields ≡ places) (few : tuple.co
   none_left i end = ap length (fields-end tuple i end)
 
 -- a template: of a decision its word, its round, and one or two fields without a value; of a list tuple its word, its position, and three
-module _ (template : Tuple) (long : length template.fields ≡ places) (h : tuple_fault false template ≡ Absent) where
+module _ (template : Tuple) (long : length template.fields ≡ places) (h : tuple_fault false template ≡ Ok tt) where
   few : template.count ≤ places
   few = (tuple-sound false template h).few
 
@@ -203,7 +203,7 @@ module _ (template : Tuple) (long : length template.fields ≡ places) (h : tupl
       )
 
 -- a list tuple: its position and its process have one byte each, its serial ten at most, and its shift three
-list-tuple-most : (tuple : Tuple) → length tuple.fields ≡ places → tuple_fault true tuple ≡ Absent → is_list_tuple tuple ≡ true
+list-tuple-most : (tuple : Tuple) → length tuple.fields ≡ places → tuple_fault true tuple ≡ Ok tt → is_list_tuple tuple ≡ true
     → position_of tuple ≤ positions → listed_process tuple < 128 → length (tuple_bytes tuple) ≤ 22
 unfolding largest_of
 list-tuple-most tuple long h shape low short =
@@ -251,7 +251,7 @@ module _ (call : Call) (short : call.process < 128) where
       let entry : length (part_bytes (uses_entry call.code) call.entry) ≡ length (tuple_bytes call.entry) = rw e in
       omega (arith, call_length call, width_one call.process short, width_one call.code (omega arith))
 
-entry-faultless : (call : Call) → call_fault call ≡ Absent → (call.code ≡ out) ⊎ (call.code ≡ cas) → tuple_fault true call.entry ≡ Absent
+entry-faultless : (call : Call) → call_fault call ≡ Ok tt → (call.code ≡ out) ⊎ (call.code ≡ cas) → tuple_fault true call.entry ≡ Ok tt
 unfolding part_fault uses_entry
 entry-faultless call faultless (inl e) = rw e at (call-sound call faultless).entry.fault
 entry-faultless call faultless (inr e) = rw e at (call-sound call faultless).entry.fault

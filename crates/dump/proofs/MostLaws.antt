@@ -7,7 +7,7 @@ use mathlib.Core.Bool.{true, false}
 use mathlib.Core.List.{List, [], ◌∷◌, map, Memᴰ}
 use lib.ListN.{length, replicate, length-append, length-map}
 use borrow.Table.Steps.{cases}
-use Rattle.dump.specs.Appending.{call_of, out_by, process_one}
+use Rattle.dump.specs.Appending.{call_of, process_one}
 use Rattle.dump.specs.Dumps.{dump_calls, dump_bytes, dump_most, is_reached, written_of}
 use Rattle.dump.specs.Laws.{LengthMost, AlwaysRoom, ListLengthMost, Wide, LengthAttained}
 use Rattle.dump.proofs.AnswerLaws.{unreached-answer, whole-answer, fits}
@@ -15,7 +15,7 @@ use Rattle.dump.proofs.LengthLaws.{set-up-three, value-length, next, none_left, 
 use Rattle.dump.proofs.ReachLaws.{call-bare}
 use Rattle.dump.proofs.SoundCalls.{dump-most, list-most, mapped}
 use Rattle.dump.proofs.UnreachedLaws.{bare-reached}
-use Rattle.record.specs.declared.writer.Recorded.TheVariants.{Length}
+use Rattle.std.specs.Prelude.{Ok}
 use Rattle.record.specs.Writing.{field_bytes, tuple_bytes, call_bytes}
 use Rattle.record.proofs.Length.{width_one}
 use Rattle.record.proofs.WrittenLaws.{tuple-length}
@@ -29,7 +29,7 @@ use Rattle.tuple.specs.declared.field.Tuple.{Tuple}
 use Rattle.tuple.specs.declared.field.Call.{Call}
 use Rattle.tuple.specs.Bounds.{places, capacity}
 use Rattle.tuple.specs.Faults.{known_head, field_fault, fields_fault, tuple_fault, place_blank, rest_from, rest_blank, is_entry}
-use Rattle.tuple.specs.Fields.{count, defined, largest_of}
+use Rattle.tuple.specs.Fields.{count, defined, largest_of, out_of}
 use Rattle.tuple.specs.Shapes.{field, is}
 use Rattle.varint.proofs.WritingLaws.{width-of-many}
 
@@ -82,8 +82,8 @@ module _ (tuple : Tuple) (long : length tuple.fields ≡ places) (wide : Wide tu
         none_left tuple long few 6 (omega arith),
       )
 
-  wide-record : length (call_bytes (out_by process_one tuple)) ≡ 69
-  wide-record = omega (arith, out-length (out_by process_one tuple) (omega arith) refl, wide-tuple)
+  wide-record : length (call_bytes (out_of process_one tuple)) ≡ 69
+  wide-record = omega (arith, out-length (out_of process_one tuple) (omega arith) refl, wide-tuple)
 
 records-length : (each : ℕ) (calls : List Call) → ((call : Call) → Memᴰ call calls → length (call_bytes call) ≡ each) → length (records_bytes calls) ≡ each * length calls
 unfolding records_bytes
@@ -116,10 +116,10 @@ module _ (config : Config) (tuples : List Tuple) (safe : sound config ≡ true) 
       let records = records-length 69 calls calls-length in
       rw (held_of config tuples) (length-append (set_up_bytes config) (records_bytes calls) ∙ omega (arith, length-map tuples (call_of config)))
 
-  attained : (room : ℕ) → dump_most ≤ room → written_of (space_of config tuples) room ≡ Length dump_most
+  attained : (room : ℕ) → dump_most ≤ room → written_of (space_of config tuples) room ≡ Ok dump_most
   attained room enough =
       whole-answer (space_of config tuples) room (formed-of config tuples safe lawful) (λ five. omega arith) (bare-reached config safe (λ five. omega arith) bare tuples lawful) (omega (arith, full-length))
-      ∙ ap Length full-length
+      ∙ ap Ok full-length
 
 -- six times 2^63
 abbrev wide_tuple : Tuple

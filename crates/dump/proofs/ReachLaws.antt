@@ -12,13 +12,13 @@ use borrow.Author.Tests.{eqb-true, eqb-false, eq-eqb, ne_eqb}
 use borrow.Table.Steps.{cases}
 use Rattle.dump.specs.Dumps.{is_appended, all_appended}
 use Rattle.dump.specs.Laws.{Appends, AppendAll}
-use Rattle.dump.specs.Appending.{process_one, out_by, cas_by, own_process, template_of, call_of}
+use Rattle.dump.specs.Appending.{process_one, own_process, template_of, call_of}
 use Rattle.calls.specs.declared.change.Change.{Change}
 use Rattle.calls.specs.declared.turn.Applied.{Applied}
 use Rattle.calls.specs.Effects.{effect}
 use Rattle.calls.specs.Turns.{applied, carried_by, turns_from, last_of, after}
 use Rattle.calls.proofs.CallSteps.{Puts as Enters, Moves, moves, changed, moves-carried, moves-lawful, Steps, steps}
-use Rattle.policy.specs.declared.verdicts.Verdict.TheVariants.{Permit}
+use Rattle.std.specs.Prelude.{Ok}
 use Rattle.policy.specs.Laws.{ListCall}
 use Rattle.policy.specs.Policies.{verdict_on}
 use Rattle.policy.proofs.ListingLaws.{list-rule}
@@ -31,29 +31,28 @@ use Rattle.space.specs.Shapes.{is_proposal, process_of}
 use Rattle.space.specs.Spaces.{held, space_of}
 use Rattle.space.proofs.ConfigLaws.{sound-range, Deciding, deciding-proposals}
 use Rattle.space.proofs.SpaceRules.{Lawful, held_of}
-use Rattle.tuple.specs.declared.fault.Fault.TheVariants.{Absent}
 use Rattle.tuple.specs.declared.field.Tuple.{Tuple}
 use Rattle.tuple.specs.declared.field.Call.{Call}
 use Rattle.tuple.specs.declared.reply.Outcome.{Outcome}
 use Rattle.tuple.specs.declared.reply.Outcome.TheVariants as outcome
 use Rattle.tuple.specs.Bounds.{capacity}
 use Rattle.tuple.specs.Faults.{call_fault}
-use Rattle.tuple.specs.Fields.{rdp, cas}
+use Rattle.tuple.specs.Fields.{rdp, cas, out_of, cas_of}
 
 -- ---- one call
 
 -- a call on the space of these tuples that appended its entry
 pub record Entered (config : Config) (tuples : List Tuple) (call : Call) (done : Applied) : Type 0 where
-  pub faultless : call_fault call ≡ Absent
+  pub faultless : call_fault call ≡ Ok tt
   pub known : (1 ≤ call.process) × (call.process ≤ config.n)
-  pub permitted : verdict_on config tuples call ≡ Permit
+  pub permitted : verdict_on config tuples call ≡ Ok tt
   pub enters : Enters tuples call done.reply.outcome
   pub room : length tuples < capacity
   pub lawful : Lawful config (tuples ++ (call.entry ∷ []))
   pub same : done.space ≡ space_of config (tuples ++ (call.entry ∷ []))
 
 module _ (config : Config) (tuples : List Tuple) (lawful : Lawful config tuples) (call : Call) where
-  module _ (faultless : call_fault call ≡ Absent) (member : (1 ≤ call.process) × (call.process ≤ config.n)) (permitted : verdict_on config tuples call ≡ Permit) where
+  module _ (faultless : call_fault call ≡ Ok tt) (member : (1 ≤ call.process) × (call.process ≤ config.n)) (permitted : verdict_on config tuples call ≡ Ok tt) where
     by-moves : {how : Outcome} {change : Change} {done : Applied} → Moves tuples call how change → done.reply.outcome ≡ how
         → done.space ≡ space_of config (changed tuples call.entry change) → is_appended done.reply.outcome ≡ true → Entered config tuples call done
     by-moves (Moves.adds enters room) answers same put =
@@ -106,16 +105,16 @@ module _ (config : Config) (tuple : Tuple) where
       cases (eqb config.policy 0) (λ e. rw e)
       (λ e. cases (eqb config.policy 4) (λ f. rw (e, f)) (λ f. cases (is_proposal tuple) (λ p. rw (e, f, p)) (λ p. rw (e, f, p))))
 
-  pub call-bare : config.policy ≡ 0 → call_of config tuple ≡ out_by process_one tuple
+  pub call-bare : config.policy ≡ 0 → call_of config tuple ≡ out_of process_one tuple
   unfolding call_of
   call-bare none = rw (eq-eqb config.policy 0 none)
 
   module _ (decides : Deciding config) where
-    pub call-proposal : is_proposal tuple ≡ true → call_of config tuple ≡ out_by (own_process config tuple) tuple
+    pub call-proposal : is_proposal tuple ≡ true → call_of config tuple ≡ out_of (own_process config tuple) tuple
     unfolding call_of
     call-proposal shape = rw (ne_eqb config.policy 0 (λ e. omega arith), ne_eqb config.policy 4 (λ e. omega arith), shape)
 
-    pub call-decision : is_proposal tuple ≡ false → call_of config tuple ≡ cas_by process_one (template_of tuple) tuple
+    pub call-decision : is_proposal tuple ≡ false → call_of config tuple ≡ cas_of process_one (template_of tuple) tuple
     unfolding call_of
     call-decision shape = rw (ne_eqb config.policy 0 (λ e. omega arith), ne_eqb config.policy 4 (λ e. omega arith), shape)
 
@@ -141,7 +140,7 @@ module _ (config : Config) (tuples : List Tuple) (tuple : Tuple) {done : Applied
     appends-proposal : is_proposal tuple ≡ true → Appends config tuple (call_of config tuple)
     appends-proposal shape =
         let same = call-proposal config tuple decides shape in
-        let made = out_by (own_process config tuple) tuple in
+        let made = out_of (own_process config tuple) tuple in
         let call : Entered config tuples made done = rw same at in-space in
         let rests : has_proposals config ≡ true = deciding-proposals config decides
         (λ one. let weak = (weak-rule config tuples made one).0 call.permitted in omega (arith, weak.code)) in
@@ -151,7 +150,7 @@ module _ (config : Config) (tuples : List Tuple) (tuple : Tuple) {done : Applied
     appends-decision : is_proposal tuple ≡ false → Appends config tuple (call_of config tuple)
     appends-decision shape =
         let same = call-decision config tuple decides shape in
-        let made = cas_by process_one (template_of tuple) tuple in
+        let made = cas_of process_one (template_of tuple) tuple in
         let call : Entered config tuples made done = rw same at in-space in
         rw same
         (cases (eqb config.policy 1)
@@ -192,7 +191,7 @@ appended-answer (outcome.Refused why) h = absurd (false≢true h)
 
 -- the call of a tuple, once it has appended it
 pub record Told (config : Config) (tuple : Tuple) : Type 0 where
-  pub faultless : call_fault (call_of config tuple) ≡ Absent
+  pub faultless : call_fault (call_of config tuple) ≡ Ok tt
   pub few : (call_of config tuple).process ≤ config.n
   pub named : Appends config tuple (call_of config tuple)
 

@@ -10,10 +10,9 @@ use borrow.Rule.Slice.PartMut.{mid_of, put_mid}
 use mir.Val.{Val}
 use denote.Laws.{Is}
 use denote.Struct.Declared.{row}
-use Rattle.record.specs.declared.writer.Recorded.TheVariants.{Length}
+use Rattle.std.specs.Prelude.{Ok}
 use Rattle.record.specs.Writing.{call_bytes, written_of, left_of, Typed}
 use Rattle.record.proofs.WrittenLaws.{written-whole}
-use Rattle.tuple.specs.declared.fault.Fault.TheVariants.{Absent}
 use Rattle.tuple.specs.declared.field.Call.{Call}
 use Rattle.tuple.specs.Faults.{call_fault}
 use Rattle.tuple.specs.contracts.field.Call.{the_type}
@@ -25,14 +24,14 @@ typed call vs g =
     record { process = omega (arith, g.1.1.0); template = six call.template _ g.1.1.1.1.0; entry = six call.entry _ g.1.1.1.1.1.0 }
 
 -- the part from `at` on has room for the record
-module _ (call : Call) (faultless : call_fault call ≡ Absent) (buffer : List ℕ) (at : ℕ) (fits : at + length (call_bytes call) ≤ length buffer) where
+module _ (call : Call) (faultless : call_fault call ≡ Ok tt) (buffer : List ℕ) (at : ℕ) (fits : at + length (call_bytes call) ≤ length buffer) where
   part : mid_of at (length buffer - at) buffer ≡ drop at buffer
   part = take_all (length buffer - at) (drop at buffer) (omega (arith, length-drop at buffer))
 
   room : length (call_bytes call) ≤ length (drop at buffer)
   room = simp length-drop (omega arith)
 
-  pub part-answer : written_of call (length (mid_of at (length buffer - at) buffer)) ≡ Length (length (call_bytes call))
+  pub part-answer : written_of call (length (mid_of at (length buffer - at) buffer)) ≡ Ok (length (call_bytes call))
   part-answer = rw part (sym (written-whole call (drop at buffer) faultless room).0)
 
   pub part_left : put_mid at (length buffer - at) buffer (left_of call (mid_of at (length buffer - at) buffer)) ≡ sets buffer at (call_bytes call)

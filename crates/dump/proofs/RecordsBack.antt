@@ -6,19 +6,18 @@ use mathlib.Core.List.{List, [], ◌∷◌, Memᴰ}
 use lib.ListN.{length, drop, length-append, length-drop}
 use lib.Seq.{drop-drop, drop-append_seam}
 use Rattle.dump.proofs.ByteLaws.{Sound}
-use Rattle.record.specs.Reading.{place}
 use Rattle.record.specs.Writing.{call_bytes}
 use Rattle.record.proofs.ReadBack.{read_back}
 use Rattle.record.proofs.WrittenLaws.{call_length}
 use Rattle.script.specs.Scripts.{prepend, records_at, records_bytes}
 use Rattle.script.proofs.RecordLaws.{records-end, records-on}
-use Rattle.tuple.specs.declared.fault.Fault.TheVariants.{Absent}
+use Rattle.std.specs.Prelude.{Ok}
 use Rattle.tuple.specs.declared.field.Call.{Call}
 use Rattle.varint.specs.Reading.{Bytes}
 use Rattle.varint.proofs.WritingLaws.{width-least}
 
 pub records-back : (s : List ℕ) → Bytes s → (calls : List Call) → ((call : Call) → Memᴰ call calls → Sound call) → (at : ℕ)
-    → drop at s ≡ records_bytes calls → records_at s at ≡ record { calls = calls; fault = Absent }
+    → drop at s ≡ records_bytes calls → records_at s at ≡ record { calls = calls; fault = Ok tt }
 unfolding records_bytes
 records-back s bytes [] sound at e =
     let none : length (drop at s) ≡ 0 = ap length e in
@@ -30,5 +29,5 @@ records-back s bytes (call ∷ calls) sound at e =
     let inside : at < length s = omega (arith, length-drop at s, call_length call, width-least call.process) in
     let behind : drop (at + length (call_bytes call)) s ≡ records_bytes calls =
     sym (drop-drop (length (call_bytes call)) at s) ∙ ap (drop (length (call_bytes call))) e ∙ drop-append_seam (call_bytes call) (records_bytes calls) in
-    records-on s at inside (record { next = place (at + length (call_bytes call)); call = call }) (sym read) (record { at = at + length (call_bytes call) }) bytes refl
+    records-on s at inside bytes read
     ∙ ap (prepend call) (records-back s bytes calls (λ other m. sound other (Memᴰ.tail m)) (at + length (call_bytes call)) behind)

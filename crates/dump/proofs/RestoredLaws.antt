@@ -29,7 +29,7 @@ use Rattle.space.specs.Configs.{sound}
 use Rattle.space.specs.Spaces.{space_of, fresh_of, Typed}
 use Rattle.space.proofs.ConfigLaws.{sound-rule, sound-range, sound-choices}
 use Rattle.space.proofs.SpaceRules.{formed-sound, formed-same}
-use Rattle.tuple.specs.declared.fault.Fault.TheVariants.{Absent}
+use Rattle.std.specs.Prelude.{Ok}
 use Rattle.tuple.specs.declared.field.Call.{Call}
 use Rattle.varint.specs.Reading.{Bytes}
 use Rattle.varint.proofs.ReadingLaws.{picked}
@@ -58,7 +58,7 @@ module _ (config : Config) (safe : sound config ≡ true) where
 
 -- a script that is not too long, whose set-up is read and is sound, and whose records are read as these
 opened : (s : List ℕ) (config : Config) (at : ℕ) (records : Records) → length s ≤ script_bytes
-    → config_of s ≡ record { next = place at; config = config } → sound config ≡ true → records_at s at ≡ records
+    → config_of s ≡ Ok (config, place at) → sound config ≡ true → records_at s at ≡ records
     → ran s ≡ ran_on (space_of config []) records
 unfolding ran fresh_of
 opened s config at records short set-up safe read = rw (le-leb (length s) script_bytes short, set-up, safe, read)
@@ -88,7 +88,7 @@ module _ (space : Space) (typed : Typed space) (dumpable : Dumpable space) where
         made = turns_from (space_of config []) calls;
         bytes = script-bytes;
         runs = opened s config (length (set_up_bytes config)) _ few set-up safe records
-            ∙ ap (Opened config (turns_from (space_of config []) calls) Absent) (again.left ∙ formed-same space dumpable.formed typed);
+            ∙ ap (Opened config (turns_from (space_of config []) calls) (Ok tt)) (again.left ∙ formed-same space dumpable.formed typed);
         appends = again.appends;
       }
 
@@ -104,5 +104,5 @@ pub refused-rule : RefusedRule
 refused-rule space room typed formed other nowhere =
     cases (is_reached space)
     (λ e. let again = restored space typed (record { formed = formed; other = other; reached = e }) in
-    absurd (nowhere (dump_bytes space) (record { bytes = again.bytes; config = space.config; made = again.made; fault = Absent; runs = again.runs })))
+    absurd (nowhere (dump_bytes space) (record { bytes = again.bytes; config = space.config; made = again.made; fault = (Ok tt); runs = again.runs })))
     (λ e. unreached-answer space room formed other e)

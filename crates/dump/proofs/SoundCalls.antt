@@ -34,7 +34,7 @@ use Rattle.space.specs.Spaces.{held}
 use Rattle.space.specs.Spaces as spaces
 use Rattle.space.proofs.ConfigLaws.{sound-range, has-list-rule}
 use Rattle.space.proofs.SpaceRules.{held_of, formed-sound, formed-few, mem-take}
-use Rattle.tuple.specs.declared.fault.Fault.TheVariants.{Absent}
+use Rattle.std.specs.Prelude.{Ok}
 use Rattle.tuple.specs.declared.field.Tuple.{Tuple}
 use Rattle.tuple.specs.declared.field.Call.{Call}
 use Rattle.tuple.specs.Bounds.{places, capacity}
@@ -86,7 +86,7 @@ module _ (space : Space) (typed : spaces.Typed space) (dumpable : Dumpable space
   unfolding dump_calls
   calls-sound call m = let of = mapped (call_of space.config) (held space) m in subst Sound (sym of.2) (sound-call of.0 of.1)
 
-  pub call-faultless : (i : ℕ) → i < space.count → call_fault (call_at space i) ≡ Absent
+  pub call-faultless : (i : ℕ) → i < space.count → call_fault (call_at space i) ≡ Ok tt
   call-faultless i below = (back.each (tuple_at space i) (stands-there space typed dumpable.formed i below)).faultless
 
   -- under policy 4 the tuples held are a list in the order of its positions

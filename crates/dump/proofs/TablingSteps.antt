@@ -3,25 +3,25 @@
 use mathlib.Core.Path.{◌≡◌, refl, sym, ap, ◌∙◌, subst}
 use Prim.Native.Nat.{ℕ, ◌+◌, ◌<◌}
 use native.Mathlib.Omega.{arith}
-use mathlib.Core.Bool.{Bool, true, false, false≢true, cond, not, and-eq-true_iff}
+use mathlib.Core.Bool.{Bool, true, false, false≢true, cond, not, ◌&&◌, and-eq-true_iff}
 use mathlib.Core.List.{List, ◌∷◌}
 use mathlib.Core.Logic.{inl, inr}
 use lib.ListN.{length, take, drop, length-take}
 use lib.Dec.{eqb}
 use borrow.Author.Tests.{lt-ltb, le-leb, eq-eqb, ne_eqb}
 use borrow.Table.Steps.{cases}
-use Rattle.dump.specs.Appending.{out_by, own_process, template_of}
+use Rattle.dump.specs.Appending.{own_process, template_of}
 use Rattle.dump.specs.Dumps.{is_appended}
-use Rattle.dump.specs.Private.{is_permit}
+use Rattle.std.specs.Result.{is_ok}
 use Rattle.dump.proofs.DecisionSteps.{decides-match, decided_before, cas-appends, asked-none}
 use Rattle.dump.proofs.HeldSteps.{no-tuple, tuple_at, call_at, inside, stands-there}
 use Rattle.dump.proofs.ReachLaws.{Under, under, call-bare, call-proposal, call-decision}
 use Rattle.dump.proofs.ReachingSteps.{appends_at, orderly, lawful, same-held}
 use Rattle.calls.specs.declared.effect.Effect.{Effect}
 use Rattle.calls.specs.Effects.{effect}
-use Rattle.calls.specs.Turns.{first_refusal, judged_by, judged}
-use Rattle.policy.specs.declared.verdicts.Verdict.{Verdict}
-use Rattle.policy.specs.declared.verdicts.Verdict.TheVariants.{Permit, Refuse}
+use Rattle.calls.specs.Turns.{behind_fault, behind_stranger, first_refusal, judged_by, judged}
+use Rattle.std.specs.Prelude.{Err, Ok}
+use Rattle.tuple.specs.Refusals.{Verdict}
 use Rattle.policy.specs.Justified.{is_own_proposal, is_free, out_verdict, justified}
 use Rattle.policy.specs.Policies.{table_verdict, verdict, lent_verdict}
 use Rattle.space.specs.declared.config.Config.{Config}
@@ -36,12 +36,11 @@ use Rattle.space.proofs.ConfigLaws.{has-list-rule, proposals-deciding, proposals
 use Rattle.space.proofs.SpaceRules.{mem-take, formed-sound, formed-few, held-lawful}
 use Rattle.space.proofs.TableLaws.{Belongs, belongs-parts, fits-parts, entered_here, entered-out}
 use Rattle.space.proofs.TableSteps.{place-test}
-use Rattle.tuple.specs.declared.fault.Fault.TheVariants.{Absent}
 use Rattle.tuple.specs.declared.field.Tuple.{Tuple}
 use Rattle.tuple.specs.declared.field.Call.{Call}
 use Rattle.tuple.specs.Bounds.{capacity}
 use Rattle.tuple.specs.Faults.{call_fault, is_entry}
-use Rattle.tuple.specs.Fields.{out, cas}
+use Rattle.tuple.specs.Fields.{out, cas, out_of}
 use Rattle.tuple.specs.Matching.{oldest_of}
 use Rattle.tuple.proofs.Lists.{drop-take-step}
 use Rattle.tuple.proofs.NoFault.{absent, out-entry}
@@ -75,13 +74,23 @@ module _ (config : Config) (table : List ℕ) (tuple : Tuple) (fits : fits_table
 
 -- a call that is refused appends nothing, and one that is not does what it does
 module _ (tuples : List Tuple) (call : Call) where
-  kept : (said : Verdict) → is_permit said ≡ false → is_appended (judged_by tuples call said).reply.outcome ≡ false
-  kept Permit denied = absurd (false≢true (sym denied))
-  kept (Refuse why) denied = refl
+  kept : (said : Verdict) → is_ok said ≡ false → is_appended (judged_by tuples call said).reply.outcome ≡ false
+  kept (Ok _) denied = absurd (false≢true (sym denied))
+  kept (Err why) denied = refl
 
-  obeyed : (said : Verdict) → is_permit said ≡ true → judged_by tuples call said ≡ effect tuples call
-  obeyed Permit permits = refl
-  obeyed (Refuse why) permits = absurd (false≢true permits)
+  obeyed : (said : Verdict) → is_ok said ≡ true → judged_by tuples call said ≡ effect tuples call
+  obeyed (Ok _) permits = refl
+  obeyed (Err why) permits = absurd (false≢true permits)
+
+-- a call is permitted that has no fault, and of which nothing behind that is refused
+both-ok : (fault said : Verdict) → is_ok (behind_fault fault said) ≡ (is_ok fault && is_ok said)
+both-ok (Ok _) said = refl
+both-ok (Err why) said = refl
+
+pub permitted : (config : Config) (table : List ℕ) (call : Call)
+    → is_ok (first_refusal config call (lent_verdict config table call)) ≡ (is_ok (call_fault call) && is_ok (behind_stranger config call (lent_verdict config table call)))
+unfolding first_refusal
+permitted config table call = both-ok (call_fault call) (behind_stranger config call (lent_verdict config table call))
 
 -- where there is no list, the verdict without the tuples is the table's
 pub by-table : (config : Config) (table : List ℕ) (call : Call) → has_list config ≡ false → lent_verdict config table call ≡ table_verdict config table call
@@ -115,10 +124,10 @@ module _ (space : Space) (formed : well_formed space ≡ true) (bare : has_list 
       let few = formed-few space formed in
       rw (formed-sound space formed, le-leb i capacity (omega arith), bare)
 
-  pub refused-there : is_permit (said_at space i) ≡ false → appends_at space i ≡ false
+  pub refused-there : is_ok (said_at space i) ≡ false → appends_at space i ≡ false
   refused-there denied = by-verdict ∙ kept before (call_at space i) (said_at space i) denied
 
-  module _ (permits : is_permit (said_at space i) ≡ true) where
+  module _ (permits : is_ok (said_at space i) ≡ true) where
     obeyed-there : appends_at space i ≡ is_appended (effect before (call_at space i)).reply.outcome
     obeyed-there = by-verdict ∙ ap (λ (does : Effect). is_appended does.reply.outcome) (obeyed before (call_at space i) (said_at space i) permits)
 
@@ -179,14 +188,14 @@ module _ (space : Space) (formed : well_formed space ≡ true) (bare : has_list 
     known-there = rw (le-leb 1 (process_of tuple) parts.at.some, le-leb (process_of tuple) config.n parts.at.few)
 
     -- its call is an out by its own process
-    call-there : call_at space i ≡ out_by (process_of tuple) tuple
+    call-there : call_at space i ≡ out_of (process_of tuple) tuple
     unfolding own_process
     call-there = call-proposal config tuple (proposals-deciding config parts.policy) parts.shape ∙ rw known-there
 
     entry-there : is_entry tuple ≡ true
     entry-there = (held-lawful space formed).entries tuple (stands-there space typed formed i below)
 
-    verdict-there : table_verdict config (table_of config (take i (held space))) (out_by (process_of tuple) tuple) ≡ Permit
+    verdict-there : table_verdict config (table_of config (take i (held space))) (out_of (process_of tuple) tuple) ≡ Ok tt
     unfolding table_verdict justified out_verdict is_own_proposal is_free code_at
     verdict-there =
         let some = proposals-some config parts.policy in
@@ -208,7 +217,7 @@ module _ (space : Space) (formed : well_formed space ≡ true) (bare : has_list 
     unfolding first_refusal
     belongs-there =
         let process = process_of tuple in
-        let asks = first_refusal config (out_by process tuple) (table_verdict config (table_of config (take i (held space))) (out_by process tuple)) in
-        let faultless : call_fault (out_by process tuple) ≡ Absent = absent _ (out-entry process tuple ∙ entry-there) in
-        let permits : is_permit asks ≡ true = rw (faultless, known-there, verdict-there) in
+        let asks = first_refusal config (out_of process tuple) (table_verdict config (table_of config (take i (held space))) (out_of process tuple)) in
+        let faultless : call_fault (out_of process tuple) ≡ (Ok tt) = absent _ (out-entry process tuple ∙ entry-there) in
+        let permits : is_ok asks ≡ true = rw (faultless, known-there, verdict-there) in
         out-there (rw call-there permits) (ap (λ (c : Call). c.code) call-there)

@@ -5,7 +5,7 @@ use lib.ListN.{length}
 use Rattle.dump.specs.Appending.{template_of}
 use Rattle.policy.specs.Shapes.{is_weak_template, is_weak_entry, is_decision_template, is_decision}
 use Rattle.space.specs.Shapes.{round_of}
-use Rattle.tuple.specs.declared.fault.Fault.TheVariants.{Absent}
+use Rattle.std.specs.Prelude.{Ok}
 use Rattle.tuple.specs.declared.field.Tuple.{Tuple}
 use Rattle.tuple.specs.declared.field.Call.{Call}
 use Rattle.tuple.specs.Bounds.{places}
@@ -17,8 +17,8 @@ use Rattle.tuple.proofs.NoFault.{call-sound}
 
 -- ---- the parts of a cas
 
-module _ (call : Call) (faultless : call_fault call ≡ Absent) (e : call.code ≡ cas) where
-  pub template-faultless : tuple_fault false call.template ≡ Absent
+module _ (call : Call) (faultless : call_fault call ≡ Ok tt) (e : call.code ≡ cas) where
+  pub template-faultless : tuple_fault false call.template ≡ Ok tt
   unfolding part_fault uses_template
   template-faultless = rw e at (call-sound call faultless).template.fault
 

@@ -9,12 +9,11 @@ use lib.ListN.{length}
 use lib.Dec.{ltb}
 use borrow.Author.Tests.{ltb-true, ltb-false}
 use borrow.Table.Steps.{cases}
-use Rattle.record.specs.declared.reader.Next.{Next}
-use Rattle.record.specs.declared.reader.Next.TheVariants.{At, Refused}
-use Rattle.record.specs.Reading.{call_at}
+use Rattle.record.specs.Reading.{Reading, call_at}
 use Rattle.record.specs.Writing.{Typed}
 use Rattle.script.specs.Scripts.{records_at}
 use Rattle.script.proofs.RecordLaws.{call-read, read-inside, records-end, records-on, records-stop}
+use Rattle.std.specs.Prelude.{Err, Ok}
 use Rattle.tuple.specs.declared.field.Call.{Call}
 use Rattle.varint.specs.Reading.{Bytes}
 
@@ -26,19 +25,19 @@ module _ (s : List ℕ) (bytes : Bytes s) (call : Call) where
   ends at end m = absurd (Memᴰ.not-nil (rw (records-end s at end) at m))
 
   -- one record, if those behind it are so
-  inside : (at : ℕ) → at < length s → ((next : ℕ) → at + 2 ≤ next → Reads next) → (next : Next) → (call_at s at).next ≡ next → Reads at
-  inside at here more (At cursor) e m =
-      let read = call-read s at (call_at s at) cursor bytes refl e in
-      ⊎_elim (λ (first : call ≡ (call_at s at).call). subst Typed (sym first) read.typed)
+  inside : (at : ℕ) → at < length s → ((next : ℕ) → at + 2 ≤ next → Reads next) → (read : Reading Call) → call_at s at ≡ read → Reads at
+  inside at here more (Ok (first, cursor)) e m =
+      let read = call-read bytes e in
+      ⊎_elim (λ (same : call ≡ first). subst Typed (sym same) read.typed)
       (λ (later : Memᴰ call (records_at s cursor.at).calls). more cursor.at (read-inside here read).0 later)
-      (Memᴰ.cases_cons (rw (records-on s at here (call_at s at) refl cursor bytes e) at m))
-  inside at here more (Refused why) e m = absurd (Memᴰ.not-nil (rw (records-stop s at here (call_at s at) refl why e) at m))
+      (Memᴰ.cases_cons (rw (records-on s at here bytes e) at m))
+  inside at here more (Err why) e m = absurd (Memᴰ.not-nil (rw (records-stop s at here e) at m))
 
   typed-from : (left at : ℕ) → length s ≤ at + left → Reads at
   typed-from zero at enough = ends at (omega arith)
   typed-from (suc left) at enough =
       cases (ltb at (length s))
-      (λ e. inside at (ltb-true at (length s) e) (λ next behind. typed-from left next (omega arith)) (call_at s at).next refl)
+      (λ e. inside at (ltb-true at (length s) e) (λ next behind. typed-from left next (omega arith)) (call_at s at) refl)
       (λ e. ends at (ltb-false at (length s) e))
 
   pub typed-calls : (at : ℕ) → Reads at

@@ -13,7 +13,7 @@ use borrow.Author.Tests.{eqb-true, eqb-false, eq-eqb, ne_eqb, le-leb, lt-ltb}
 use borrow.Table.Steps.{cases}
 use Rattle.dump.specs.Dumps.{dump_calls, is_appended, all_appended, is_reached}
 use Rattle.dump.specs.Laws.{UnreachedRule}
-use Rattle.dump.specs.Appending.{process_one, out_by, cas_by, own_process, template_of, call_of}
+use Rattle.dump.specs.Appending.{process_one, own_process, template_of, call_of}
 use Rattle.dump.proofs.AnswerLaws.{refused-unreached}
 use Rattle.dump.proofs.ReachLaws.{Entered, entered, Under, under, call-entry, call-bare, call-proposal, call-decision, list-entered, rebuilt}
 use Rattle.dump.proofs.Templates.{template-rest, weak-template, decision-template}
@@ -26,7 +26,7 @@ use Rattle.calls.specs.Turns.{first_refusal, searched, carried_by, applied, turn
 use Rattle.calls.proofs.CallSteps.{Puts as Enters, Moves, moves, changed, moves-carried, Steps, steps}
 use Rattle.calls.proofs.Effects.{no-inp}
 use Rattle.calls.proofs.RunSteps.{fresh-space, none-lawful, fresh-run, after_run}
-use Rattle.policy.specs.declared.verdicts.Verdict.TheVariants.{Permit}
+use Rattle.std.specs.Prelude.{None, Ok}
 use Rattle.policy.specs.Justified.{is_decision_call, cas_verdict, justified}
 use Rattle.policy.specs.Policies.{verdict_on}
 use Rattle.policy.specs.Weak.{is_weak_call, weak}
@@ -42,15 +42,13 @@ use Rattle.space.specs.Shapes.{is_proposal, process_of}
 use Rattle.space.specs.Spaces.{held, space_of}
 use Rattle.space.proofs.ConfigLaws.{sound-range, Deciding, deciding-proposals, has-list-rule}
 use Rattle.space.proofs.SpaceRules.{Lawful, held_of, formed-of}
-use Rattle.tuple.specs.declared.fault.Fault.TheVariants.{Absent}
 use Rattle.tuple.specs.declared.field.Tuple.{Tuple}
 use Rattle.tuple.specs.declared.field.Call.{Call}
-use Rattle.tuple.specs.declared.matching.Found.TheVariants.{Nowhere}
 use Rattle.tuple.specs.declared.reply.Outcome.{Outcome}
 use Rattle.tuple.specs.declared.reply.Outcome.TheVariants as outcome
 use Rattle.tuple.specs.Bounds.{capacity}
 use Rattle.tuple.specs.Faults.{is_absent, tuple_fault, part_fault, uses_template, uses_entry, used_fault, is_blank, place_blank, rest_from, rest_blank, call_fault, is_entry}
-use Rattle.tuple.specs.Fields.{out, cas, blank_tuple}
+use Rattle.tuple.specs.Fields.{out, cas, blank_tuple, out_of, cas_of}
 use Rattle.tuple.specs.Forms.{list_template}
 use Rattle.tuple.specs.Matching.{oldest_of}
 use Rattle.tuple.proofs.Blanks.{blank-tuple}
@@ -60,7 +58,7 @@ use Rattle.tuple.proofs.ShapeLaws.{forms-made}
 -- ---- a call that is obeyed
 
 module _ (config : Config) (safe : sound config ≡ true) (tuples : List Tuple) (lawful : Lawful config tuples) (call : Call) where
-  obeyed : call_fault call ≡ Absent → (1 ≤ call.process) × (call.process ≤ config.n) → verdict_on config tuples call ≡ Permit
+  obeyed : call_fault call ≡ Ok tt → (1 ≤ call.process) × (call.process ≤ config.n) → verdict_on config tuples call ≡ Ok tt
       → (applied (space_of config tuples) call).reply.outcome ≡ (effect tuples call).reply.outcome
   unfolding applied searched first_refusal known
   obeyed faultless member permitted =
@@ -122,20 +120,20 @@ module _ (config : Config) (tuples : List Tuple) (call : Call) (typed : Typed ca
 
 module _ (process : ℕ) (template entry : Tuple) where
   -- what is wrong with it does not depend on the process
-  same-fault : call_fault (cas_by process_one template entry) ≡ call_fault (cas_by process template entry)
+  same-fault : call_fault (cas_of process_one template entry) ≡ call_fault (cas_of process template entry)
   unfolding call_fault used_fault
   same-fault = refl
 
   -- nor does what policies 1 to 3 permit
   same-verdict : (config : Config) (tuples : List Tuple) → Deciding config
-      → verdict_on config tuples (cas_by process_one template entry) ≡ verdict_on config tuples (cas_by process template entry)
+      → verdict_on config tuples (cas_of process_one template entry) ≡ verdict_on config tuples (cas_of process template entry)
   unfolding verdict_on weak is_weak_call justified cas_verdict is_decision_call
   same-verdict config tuples decides =
       let other : has_list config ≡ false =
       cases (has_list config) (λ lists. absurd (⊎_elim (λ four. omega (arith, decides.1)) (λ five. omega (arith, decides.1)) ((has-list-rule config).0 lists))) (λ e. e) in
       rw other
 
-  inserts : (tuples : List Tuple) → oldest_of tuples template ≡ Nowhere → length tuples < capacity → (effect tuples (cas_by process template entry)).reply.outcome ≡ outcome.Inserted
+  inserts : (tuples : List Tuple) → oldest_of tuples template ≡ None → length tuples < capacity → (effect tuples (cas_of process template entry)).reply.outcome ≡ outcome.Inserted
   unfolding effect
   inserts tuples none room = rw (none, lt-ltb (length tuples) capacity room)
 
@@ -154,11 +152,11 @@ module _ (config : Config) (safe : sound config ≡ true) (tuples : List Tuple) 
   decided-again decides (Enters.by-cas e none) =
       let again = cas-again config tuples call typed here decides e in
       let template = template_of call.entry in
-      let own = cas_by call.process template call.entry in
+      let own = cas_of call.process template call.entry in
       let same : call ≡ own = λ i. record { process = call.process; code = e i; template = again.1 i; entry = call.entry } in
-      let other = cas_by process_one template call.entry in
-      let faultless : call_fault other ≡ Absent = same-fault call.process template call.entry ∙ ap call_fault (sym same) ∙ here.faultless in
-      let permitted : verdict_on config tuples other ≡ Permit =
+      let other = cas_of process_one template call.entry in
+      let faultless : call_fault other ≡ (Ok tt) = same-fault call.process template call.entry ∙ ap call_fault (sym same) ∙ here.faultless in
+      let permitted : verdict_on config tuples other ≡ (Ok tt) =
       same-verdict call.process template call.entry config tuples decides ∙ ap (verdict_on config tuples) (sym same) ∙ here.permitted in
       let answer : (applied (space_of config tuples) other).reply.outcome ≡ outcome.Inserted =
       obeyed config safe tuples lawful other faultless (omega arith, (sound-range config safe).0) permitted
@@ -181,7 +179,7 @@ data Went (config : Config) (tuples : List Tuple) (done : Applied) : Type 0 wher
   appends : is_appended done.reply.outcome ≡ true → Went config tuples done
 
 module _ (config : Config) (strict : (1 ≤ config.policy) × (config.policy ≤ 4)) (tuples : List Tuple) (lawful : Lawful config tuples) (call : Call) where
-  moved : {how : Outcome} {change : Change} {done : Applied} → verdict_on config tuples call ≡ Permit → Moves tuples call how change → done.reply.outcome ≡ how
+  moved : {how : Outcome} {change : Change} {done : Applied} → verdict_on config tuples call ≡ Ok tt → Moves tuples call how change → done.reply.outcome ≡ how
       → done.space ≡ space_of config (changed tuples call.entry change) → Went config tuples done
   moved permitted (Moves.adds (Enters.by_out e) room) answers same = appends (rw answers)
   moved permitted (Moves.adds (Enters.by-cas e none) room) answers same = appends (rw answers)
@@ -258,7 +256,7 @@ module _ (config : Config) (safe : sound config ≡ true) (other-policy : config
   -- ---- policy 0
 
   module _ (bare : config.policy ≡ 0) where
-    bare-faultless : (tuple : Tuple) → is_entry tuple ≡ true → call_fault (out_by process_one tuple) ≡ Absent
+    bare-faultless : (tuple : Tuple) → is_entry tuple ≡ true → call_fault (out_of process_one tuple) ≡ Ok tt
     unfolding is_entry call_fault used_fault part_fault uses_template uses_entry rest_blank rest_from place_blank is_blank
     bare-faultless tuple entry =
         let parts = (and-eq-true_iff (is_absent (tuple_fault true tuple)) _).0 entry in
@@ -268,7 +266,7 @@ module _ (config : Config) (safe : sound config ≡ true) (other-policy : config
         → is_appended (applied (space_of config tuples) (call_of config tuple)).reply.outcome ≡ true
     unfolding effect
     bare-done tuples tuple lawful room entry =
-        let call = out_by process_one tuple in
+        let call = out_of process_one tuple in
         let permitted = bare-rule config tuples call bare in
         let answer : (applied (space_of config tuples) call).reply.outcome ≡ outcome.Done =
         obeyed config safe tuples lawful call (bare-faultless tuple entry) (omega arith, (sound-range config safe).0) permitted ∙ rw (lt-ltb (length tuples) capacity room) in

@@ -8,18 +8,12 @@ use Rattle.space.specs.Lists.{position_of}
 use Rattle.space.specs.Shapes.{round_of, is_proposal, process_of}
 use Rattle.tuple.specs.declared.field.Tuple.{Tuple}
 use Rattle.tuple.specs.declared.field.Call.{Call}
-use Rattle.tuple.specs.Fields.{out, cas, blank_tuple}
+use Rattle.tuple.specs.Fields.{out_of, cas_of}
 use Rattle.tuple.specs.Forms.{weak_template, decision_template, list_template}
 
 -- the process that appends what has no process of its own
 abbrev pub process_one : ℕ
 process_one = 1
-
-abbrev pub out_by : ℕ → Tuple → Call
-out_by process tuple = record { process = process; code = out; template = blank_tuple; entry = tuple }
-
-abbrev pub cas_by : ℕ → Tuple → Tuple → Call
-cas_by process template tuple = record { process = process; code = cas; template = template; entry = tuple }
 
 -- ---- a proposal or a list tuple
 
@@ -38,6 +32,6 @@ template_of tuple = cond (eqb tuple.count 4) (decision_template (round_of tuple)
 -- under policy 4 every tuple is tried with the template of its position
 unfoldable pub call_of : Config → Tuple → Call
 call_of config tuple =
-    cond (eqb config.policy 0) (out_by process_one tuple)
-    (cond (eqb config.policy 4) (cas_by (own_process config tuple) (list_template (position_of tuple)) tuple)
-    (cond (is_proposal tuple) (out_by (own_process config tuple) tuple) (cas_by process_one (template_of tuple) tuple)))
+    cond (eqb config.policy 0) (out_of process_one tuple)
+    (cond (eqb config.policy 4) (cas_of (own_process config tuple) (list_template (position_of tuple)) tuple)
+    (cond (is_proposal tuple) (out_of (own_process config tuple) tuple) (cas_of process_one (template_of tuple) tuple)))

@@ -1,9 +1,8 @@
 -- Document 02, 2.4 and 2.7: the script that a space is written as, whether there is one, and what writing it answers and leaves.
-use Rattle.std.specs.Prelude.{ℕ, ◌+◌, ◌*◌, Bool, true, false, cond, ◌&&◌, List, [], ◌∷◌, ◌++◌, map, length, drop, leb}
+use Rattle.std.specs.Prelude.{ℕ, ◌+◌, ◌*◌, Bool, true, false, cond, ◌&&◌, List, [], ◌∷◌, ◌++◌, map, length, drop, leb, Err, Ok, Result}
 use Rattle.dump.specs.Appending.{call_of}
 use Rattle.calls.specs.Turns.{Turn, turns}
-use Rattle.record.specs.declared.writer.Recorded.{Recorded}
-use Rattle.record.specs.declared.writer.Recorded.TheVariants.{Length, Unwritten}
+use Rattle.tuple.specs.declared.refusal.Refusal.{Refusal}
 use Rattle.script.specs.Scripts.{set_up_bytes, records_bytes}
 use Rattle.space.specs.declared.space.Space.{Space}
 use Rattle.space.specs.Configs.{has_announcements}
@@ -51,19 +50,19 @@ is_reached space = all_appended (turns space.config (dump_calls space))
 
 -- 1 for a space that is not well formed; then 15 under policy 5, of which the writer does not speak; then 14 for one that this script does not end in, and
 -- so none (`UnreachedRule`, `RefusedRule`); then 10, or the script's length
-unfoldable pub written_of : Space → ℕ → Recorded
+unfoldable pub written_of : Space → ℕ → Result ℕ Refusal
 written_of space room =
     cond (well_formed space)
-    (cond (has_announcements space.config) (Unwritten (refusal 15))
+    (cond (has_announcements space.config) (Err (refusal 15))
     (cond (is_reached space)
-    (cond (leb (length (dump_bytes space)) room) (Length (length (dump_bytes space))) (Unwritten (refusal 10)))
-    (Unwritten (refusal 14))))
-    (Unwritten (refusal 1))
+    (cond (leb (length (dump_bytes space)) room) (Ok (length (dump_bytes space))) (Err (refusal 10)))
+    (Err (refusal 14))))
+    (Err (refusal 1))
 
 -- the script from the first byte on and no byte after it changed, or after a refusal no byte at all
-abbrev pub buffer_step : List ℕ → List ℕ → Recorded → List ℕ
-buffer_step bytes buffer (Unwritten why) = buffer
-buffer_step bytes buffer (Length n) = bytes ++ drop n buffer
+abbrev pub buffer_step : List ℕ → List ℕ → Result ℕ Refusal → List ℕ
+buffer_step bytes buffer (Err why) = buffer
+buffer_step bytes buffer (Ok n) = bytes ++ drop n buffer
 
 unfoldable pub left_of : Space → List ℕ → List ℕ
 left_of space buffer = buffer_step (dump_bytes space) buffer (written_of space (length buffer))

@@ -1,10 +1,9 @@
 -- Document 02, 2.4, 2.6 and 2.7, by examples: the space in which document 01's worked script ends, written as a script, and other spaces, many of which no
 -- script ends in, as rows of one table with one claim.
-use Rattle.std.specs.Prelude.{◌≡◌, ℕ, cond, List, [], ◌∷◌, map, eqb, set}
+use Rattle.std.specs.Prelude.{◌≡◌, ℕ, cond, List, [], ◌∷◌, map, eqb, set, Err, Ok, Result}
 use Rattle.dump.specs.Dumps.{dump_bytes, dump_most, written_of}
 use Rattle.dump.specs.Laws.{EndsIn}
-use Rattle.record.specs.declared.writer.Recorded.{Recorded}
-use Rattle.record.specs.declared.writer.Recorded.TheVariants.{Length, Unwritten}
+use Rattle.tuple.specs.declared.refusal.Refusal.{Refusal}
 use Rattle.space.specs.declared.space.Space.{Space}
 use Rattle.space.specs.Spaces.{space_of}
 use Rattle.space.specs.Tables.{empty_table}
@@ -77,18 +76,18 @@ ListedBytes = dump_bytes listed ≡ listed_bytes
 -- a space, and what writing it into a buffer that has room answers
 pub record Row : Type 0 where
   pub space : Space
-  pub answer : Recorded
+  pub answer : Result ℕ Refusal
 
-abbrev pub row : Space → Recorded → Row
+abbrev pub row : Space → Result ℕ Refusal → Row
 row space answer = record { space = space; answer = answer }
 
 -- no script ends in this space
 abbrev pub unreached : Space → Row
-unreached space = row space (Unwritten (refusal 14))
+unreached space = row space (Err (refusal 14))
 
 -- it is not well formed
 abbrev pub unformed : Space → Row
-unformed space = row space (Unwritten (refusal 1))
+unformed space = row space (Err (refusal 1))
 
 -- the space with another table
 abbrev pub with_table : Space → List ℕ → Space
@@ -96,7 +95,7 @@ with_table space table = record { config = space.config; count = space.count; tu
 
 abbrev pub rows : List Row
 rows =
-    row worked (Length 54)
+    row worked (Ok 54)
     -- a decision before the proposals that bear it
     ∷ unreached (under 2 (decision_entry 0 80 5 ∷ proposal 0 1 80 ∷ proposal 0 3 80 ∷ []))
     -- two decisions of a round, an equal one and another one
@@ -113,7 +112,7 @@ rows =
     -- a set above n
     ∷ unreached (under 2 (proposal 0 1 80 ∷ proposal 0 3 80 ∷ decision_entry 0 80 21 ∷ []))
     -- under policy 3 a choice, and an offset outside the choices
-    ∷ row (under 3 (proposal 0 1 3 ∷ [])) (Length 15)
+    ∷ row (under 3 (proposal 0 1 3 ∷ [])) (Ok 15)
     ∷ unformed (under 3 (proposal 0 1 5 ∷ []))
     -- the worked space with a code of its table changed, with one missing, and with one too many: of a process that did not propose, and above n
     ∷ unformed (with_table worked (set worked.table 0 81))
@@ -126,13 +125,13 @@ rows =
     ∷ unformed (with_table (under 4 []) (set empty_table 0 80))
     ∷ unformed (with_table (under 5 []) (set empty_table 247 80))
     -- under policy 1 a decision, a decided mark, and any other tuple
-    ∷ row (under 1 (weak_entry 0 80 ∷ [])) (Length 18)
+    ∷ row (under 1 (weak_entry 0 80 ∷ [])) (Ok 18)
     ∷ unreached (under 1 (weak_entry 0 0 ∷ []))
     ∷ unreached (under 1 (proposal 0 1 80 ∷ []))
     -- under policy 0 every tuple
-    ∷ row (under 0 (decision_entry 0 80 5 ∷ decision_entry 0 80 5 ∷ [])) (Length 25)
+    ∷ row (under 0 (decision_entry 0 80 5 ∷ decision_entry 0 80 5 ∷ [])) (Ok 25)
     -- under policy 4 the list of two shifts
-    ∷ row listed (Length 45)
+    ∷ row listed (Ok 45)
     -- position 2 before 1, 3 behind 1, 0, 1 twice, and 113 with nothing before it
     ∷ unreached (under 4 (list_tuple 2 2 7 81 ∷ list_tuple 1 1 7 80 ∷ []))
     ∷ unreached (under 4 (list_tuple 1 1 7 80 ∷ list_tuple 3 2 7 81 ∷ []))
@@ -148,8 +147,8 @@ rows =
     ∷ unreached (under 4 (proposal 0 1 80 ∷ []))
     ∷ unreached (under 4 (decision_entry 0 80 5 ∷ []))
     -- under policy 5 no space is written, be it one that calls make
-    ∷ row (under 5 []) (Unwritten (refusal 15))
-    ∷ row (under 5 (list_tuple 1 1 7 80 ∷ announcement 2 7 81 ∷ [])) (Unwritten (refusal 15))
+    ∷ row (under 5 []) (Err (refusal 15))
+    ∷ row (under 5 (list_tuple 1 1 7 80 ∷ announcement 2 7 81 ∷ [])) (Err (refusal 15))
     -- not well formed, and so not asked for 14: no policy of this number, and an offset beyond its kind
     ∷ unformed (under 255 (proposal 0 1 80 ∷ []))
     ∷ unformed (under 2 (proposal 0 1 200_002 ∷ []))

@@ -1,11 +1,11 @@
 -- The laws of a space that is written as a script, as claims over the definitions, in document 02's words (2.4, of policy 4 2.6, and of policy 5 2.7).
-use Rattle.std.specs.Prelude.{◌≡◌, Bool, true, false, ◌↔◌, ◌⊎◌, ℕ, ◌≤◌, ◌<◌, length, take, drop}
+use Rattle.std.specs.Prelude.{◌≡◌, Bool, true, false, ◌↔◌, ◌⊎◌, ℕ, ◌≤◌, ◌<◌, length, take, drop, Err, Ok}
 use mathlib.Core.List.{List, [], ◌∷◌, Memᴰ}
 use Rattle.dump.specs.Dumps.{dump_bytes, is_reached, written_of, left_of}
 use Rattle.calls.specs.Turns.{Turn}
 use Rattle.policy.specs.Listing.{is_list_template}
 use Rattle.policy.specs.Shapes.{is_weak_template, is_weak_entry, is_decision_template, is_decision}
-use Rattle.record.specs.declared.writer.Recorded.TheVariants.{Length, Unwritten}
+use Rattle.tuple.specs.Refusals.{Verdict}
 use Rattle.script.specs.Scripts.{Opened, ran}
 use Rattle.space.specs.declared.config.Config.{Config}
 use Rattle.space.specs.declared.space.Space.{Space}
@@ -13,8 +13,6 @@ use Rattle.space.specs.Configs.{sound, has_proposals}
 use Rattle.space.specs.Lists.{listed_process, is_list_tuple, position_of}
 use Rattle.space.specs.Shapes.{is_proposal, round_of, process_of}
 use Rattle.space.specs.Spaces.{held, space_of, well_formed, Typed}
-use Rattle.tuple.specs.declared.fault.Fault.{Fault}
-use Rattle.tuple.specs.declared.fault.Fault.TheVariants.{Absent}
 use Rattle.tuple.specs.declared.field.Tuple.{Tuple}
 use Rattle.tuple.specs.declared.field.Call.{Call}
 use Rattle.tuple.specs.declared.refusal.Refusal.{Refusal}
@@ -75,7 +73,7 @@ pub data AppendAll (config : Config) : List Tuple → List Turn → Type 0 where
 pub record Restored (space : Space) : Type 0 where
   pub made : List Turn
   pub bytes : Bytes (dump_bytes space)
-  pub runs : ran (dump_bytes space) ≡ Opened space.config made Absent space
+  pub runs : ran (dump_bytes space) ≡ Opened space.config made (Ok tt) space
   pub appends : AppendAll space.config (held space) made
 
 -- of each well-formed space of another policy than 5 that is not refused 14, whatever the buffer
@@ -85,7 +83,7 @@ RestoredRule =
     → Typed space
     → well_formed space ≡ true
     → (space.config.policy ≡ 5 → ⊥)
-    → (written_of space room ≡ Unwritten (refusal 14) → ⊥)
+    → (written_of space room ≡ Err (refusal 14) → ⊥)
     → Restored space
 
 -- ---- refusal 14
@@ -95,12 +93,12 @@ pub record EndsIn (s : List ℕ) (space : Space) : Type 0 where
   pub bytes : Bytes s
   pub config : Config
   pub made : List Turn
-  pub fault : Fault
+  pub fault : Verdict
   pub runs : ran s ≡ Opened config made fault space
 
 -- of a space that is refused 14, no script at all ends in it
 abbrev pub UnreachedRule : Type 0
-UnreachedRule = (space : Space) (room : ℕ) (s : List ℕ) → written_of space room ≡ Unwritten (refusal 14) → EndsIn s space → ⊥
+UnreachedRule = (space : Space) (room : ℕ) (s : List ℕ) → written_of space room ≡ Err (refusal 14) → EndsIn s space → ⊥
 
 -- and a well-formed space of another policy than 5 that no script ends in is refused 14, whatever the buffer
 abbrev pub RefusedRule : Type 0
@@ -110,23 +108,23 @@ RefusedRule =
     → well_formed space ≡ true
     → (space.config.policy ≡ 5 → ⊥)
     → ((s : List ℕ) → EndsIn s space → ⊥)
-    → written_of space room ≡ Unwritten (refusal 14)
+    → written_of space room ≡ Err (refusal 14)
 
 -- ---- the other answers, and the buffer
 
 -- 1 comes exactly of a space that is not well formed
 abbrev pub UnsoundRule : Type 0
-UnsoundRule = (space : Space) (room : ℕ) → (written_of space room ≡ Unwritten (refusal 1)) ↔ (well_formed space ≡ false)
+UnsoundRule = (space : Space) (room : ℕ) → (written_of space room ≡ Err (refusal 1)) ↔ (well_formed space ≡ false)
 
 -- 15 right after it: exactly of a well-formed space under policy 5, whatever the buffer
 abbrev pub UnscriptedRule : Type 0
-UnscriptedRule = (space : Space) (room : ℕ) → (written_of space room ≡ Unwritten (refusal 15)) ↔ ((well_formed space ≡ true) × (space.config.policy ≡ 5))
+UnscriptedRule = (space : Space) (room : ℕ) → (written_of space room ≡ Err (refusal 15)) ↔ ((well_formed space ≡ true) × (space.config.policy ≡ 5))
 
 -- 10 last: exactly of a space that none of these is said of, and a buffer that is shorter than its script
 abbrev pub NoRoomRule : Type 0
 NoRoomRule =
     (space : Space) (room : ℕ)
-    → (written_of space room ≡ Unwritten (refusal 10))
+    → (written_of space room ≡ Err (refusal 10))
     ↔ ((well_formed space ≡ true) × (space.config.policy ≡ 5 → ⊥) × (is_reached space ≡ true) × (room < length (dump_bytes space)))
 
 -- a buffer that was written begins with the script, and no byte behind it has changed
@@ -136,8 +134,8 @@ pub record Stored (space : Space) (buffer : List ℕ) (n : ℕ) : Type 0 where
   pub whole : length (left_of space buffer) ≡ length buffer
 
 pub record BufferRule (space : Space) (buffer : List ℕ) : Type 0 where
-  pub stored : (n : ℕ) → written_of space (length buffer) ≡ Length n → Stored space buffer n
-  pub kept : (why : Refusal) → written_of space (length buffer) ≡ Unwritten why → left_of space buffer ≡ buffer
+  pub stored : (n : ℕ) → written_of space (length buffer) ≡ Ok n → Stored space buffer n
+  pub kept : (why : Refusal) → written_of space (length buffer) ≡ Err why → left_of space buffer ≡ buffer
 
 abbrev pub BufferRules : Type 0
 BufferRules = (space : Space) (buffer : List ℕ) → BufferRule space buffer
@@ -146,7 +144,7 @@ BufferRules = (space : Space) (buffer : List ℕ) → BufferRule space buffer
 
 -- at most 17,667 bytes
 abbrev pub LengthMost : Type 0
-LengthMost = (space : Space) (room n : ℕ) → Typed space → written_of space room ≡ Length n → (n ≡ length (dump_bytes space)) × (n ≤ 17_667)
+LengthMost = (space : Space) (room n : ℕ) → Typed space → written_of space room ≡ Ok n → (n ≡ length (dump_bytes space)) × (n ≤ 17_667)
 
 -- so a buffer of as many has room for the script of every space: there 10 never comes
 abbrev pub AlwaysRoom : Type 0
@@ -155,9 +153,9 @@ AlwaysRoom =
     → Typed space
     → well_formed space ≡ true
     → (space.config.policy ≡ 5 → ⊥)
-    → (written_of space room ≡ Unwritten (refusal 14) → ⊥)
+    → (written_of space room ≡ Err (refusal 14) → ⊥)
     → 17_667 ≤ room
-    → written_of space room ≡ Length (length (dump_bytes space))
+    → written_of space room ≡ Ok (length (dump_bytes space))
 
 -- under policy 4 at most 3,587: a set-up of three, and 32 for each of 112 tuples
 abbrev pub ListLengthMost : Type 0
@@ -165,7 +163,7 @@ ListLengthMost =
     (space : Space) (room n : ℕ)
     → Typed space
     → space.config.policy ≡ 4
-    → written_of space room ≡ Length n
+    → written_of space room ≡ Ok n
     → (n ≡ length (dump_bytes space)) × (n ≤ 3_587)
 
 -- six counts from 2^63 up
@@ -181,5 +179,5 @@ pub record LengthAttained : Type 0 where
       → length tuples ≡ 256
       → ((tuple : Tuple) → Memᴰ tuple tuples → (is_entry tuple ≡ true) × (length tuple.fields ≡ places) × Wide tuple)
       → 17_667 ≤ room
-      → written_of (space_of config tuples) room ≡ Length 17_667
+      → written_of (space_of config tuples) room ≡ Ok 17_667
   pub one : (tuple : Tuple) × (is_entry tuple ≡ true) × (length tuple.fields ≡ places) × Wide tuple

@@ -1,55 +1,34 @@
 // The call that appends a tuple to a space.
 ghost use Rattle.std.specs.Prelude.{◌≡◌, true};
-ghost use Rattle.dump.specs.Appending.{out_by, cas_by, own_process, template_of, call_of};
+ghost use Rattle.dump.specs.Appending.{own_process, template_of, call_of};
 ghost use Rattle.space.specs.Configs.{sound};
 ghost use Rattle.space.specs.Lists.{position_of};
 ghost use Rattle.tuple.specs.Forms.{list_template};
 
 use space::{Config, is_proposal};
-use tuple::{CAS, Call, DECISION_TEMPLATE, LIST_TEMPLATE, OUT, Tuple, WEAK_TEMPLATE, make};
+use tuple::{Call, DECISION_TEMPLATE, LIST_TEMPLATE, Tuple, WEAK_TEMPLATE, make};
 
 // The process that appends what has no process of its own.
 const PROCESS_ONE: u32 = 1;
 
 // For a proposal an out by its own process, for a decision a cas by process 1, and under policy 0 for every tuple an out by process 1; under policy 4
 // for a list tuple a cas by its own process. For any other tuple it is a call that the policy never permits.
+#[tactic(auto, unfolding(crate::specs::Appending::call_of))]
 pub(crate) fn call_of(config: Config, tuple: Tuple) -> Call
     requires { sound config ≡ true }
     ensures { result ≡ call_of config tuple }
 {
     if config.policy == 0 {
-        return out_by(PROCESS_ONE, tuple);
+        return Call::out(PROCESS_ONE, tuple);
     }
     let own = own_process(config, tuple);
     if config.policy == 4 {
-        return cas_by(own, list_template(tuple), tuple);
+        return Call::cas(own, list_template(tuple), tuple);
     }
     if is_proposal(tuple) {
-        return out_by(own, tuple);
+        return Call::out(own, tuple);
     }
-    cas_by(PROCESS_ONE, template_of(tuple), tuple)
-}
-
-fn out_by(process: u32, tuple: Tuple) -> Call
-    ensures { result ≡ out_by process tuple }
-{
-    Call {
-        process,
-        code: OUT,
-        template: Tuple::blank(),
-        entry: tuple,
-    }
-}
-
-fn cas_by(process: u32, template: Tuple, tuple: Tuple) -> Call
-    ensures { result ≡ cas_by process template tuple }
-{
-    Call {
-        process,
-        code: CAS,
-        template,
-        entry: tuple,
-    }
+    Call::cas(PROCESS_ONE, template_of(tuple), tuple)
 }
 
 // The process of a proposal or a list tuple; 0, which is nobody, if it is none of 1 to n.
@@ -67,6 +46,7 @@ fn own_process(config: Config, tuple: Tuple) -> u32
 }
 
 // The template of a decision's round: its offset is open and, if the decision has a set, its set any.
+#[tactic(auto, unfolding(crate::specs::Appending::template_of))]
 fn template_of(tuple: Tuple) -> Tuple
     ensures { result ≡ template_of tuple }
 {

@@ -29,19 +29,13 @@ fn is_reached_listed(space: Space) -> bool
     ensures { result ≡ is_reached space }
 {
     let config = space.config;
-    let count = space.count;
     let mut before = space;
-    let mut i = 0;
-    while i < count {
-        let tuple = before.tuples[i];
+    for (i, tuple) in space.tuples[..space.count].iter().enumerate() {
         before.count = i;
-        let effect = judge_unchecked(before, call_of(config, tuple));
-        let reply = effect.reply;
-        let outcome = reply.outcome;
-        if !is_appended(outcome) {
+        let effect = judge_unchecked(before, call_of(config, *tuple));
+        if !is_appended(effect.reply.outcome) {
             return false;
         }
-        i += 1;
     }
     true
 }
@@ -50,12 +44,5 @@ fn is_reached_listed(space: Space) -> bool
 fn is_appended(outcome: Outcome) -> bool
     ensures { result ≡ is_appended outcome }
 {
-    match outcome {
-        Outcome::Done => true,
-        Outcome::None => false,
-        Outcome::Found => false,
-        Outcome::Inserted => true,
-        Outcome::Held => false,
-        Outcome::Refused(_) => false,
-    }
+    matches!(outcome, Outcome::Done | Outcome::Inserted)
 }

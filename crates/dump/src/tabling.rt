@@ -1,8 +1,10 @@
 // Whether the script of a space under policies 0 to 3 ends in it, by the table of the tuples before each.
 ghost use Rattle.std.specs.Prelude.{◌≡◌, true, false, cond, eqb, length};
+ghost use Rattle.std.specs.List.{list_any};
+ghost use Rattle.std.specs.Result.{is_ok};
 ghost use Rattle.calls.specs.Turns.{first_refusal};
 ghost use Rattle.dump.specs.Dumps.{is_reached};
-ghost use Rattle.dump.specs.Private.{is_permit, decides_too};
+ghost use Rattle.dump.specs.Private.{decides_too};
 ghost use Rattle.policy.specs.Policies.{lent_verdict};
 ghost use Rattle.space.specs.Bounds.{table_places};
 ghost use Rattle.space.specs.Configs.{has_list};
@@ -12,9 +14,8 @@ ghost use Rattle.tuple.specs.Fields.{cas};
 
 use crate::appending::call_of;
 use calls::lent_refusal;
-use policy::Verdict;
-use space::{Config, PLACES, Space, enter, taken_in};
-use tuple::{CAS, Call, DECISION, DECISION_ENTRY, Fault, Tuple, WEAK_ENTRY, has_shape};
+use space::{Config, PLACES, Questions, Space, Tabled, enter};
+use tuple::{CAS, Call, DECISION, DECISION_ENTRY, Tuple, WEAK_ENTRY, has_shape};
 
 // Whether each tuple's call is permitted by the table of the tuples before it and, if it is a cas, none of those holds it. A proposal that belongs in the
 // table is not judged: in a well-formed space it may be proposed, and its place is free. The space is handed to nobody in the loop, so that it is not copied.
@@ -26,25 +27,18 @@ pub(crate) fn is_reached_tabled(space: Space) -> bool
     let config = space.config;
     let count = space.count;
     let mut table = [0u64; PLACES];
-    let mut i = 0;
-    while i < count {
-        let tuple = space.tuples[i];
-        let mut j = i;
-        if !enters(config, &mut table, tuple) {
-            let call = call_of(config, tuple);
+    for (i, tuple) in space.tuples[..count].iter().enumerate() {
+        let mut first = i;
+        if !enters(config, &mut table, *tuple) {
+            let call = call_of(config, *tuple);
             if !is_permitted(config, &table, call) {
                 return false;
             }
-            j = first_asked(call.code, i);
+            first = first_asked(call.code, i);
         }
-        while j < i {
-            let other = space.tuples[j];
-            if decides_too(tuple, other) {
-                return false;
-            }
-            j += 1;
+        if is_decided(&space.tuples[first..i], *tuple) {
+            return false;
         }
-        i += 1;
     }
     true
 }
@@ -58,26 +52,17 @@ fn enters(config: Config, table: &mut [u64; PLACES], tuple: Tuple) -> bool
 {
     let second = tuple.fields[1];
     let third = tuple.fields[2];
-    let was_taken = taken_in(config, table, second.value, third.value);
+    let was_taken = Tabled { config, table }.is_taken(second.value, third.value);
     enter(config, table, tuple);
-    if was_taken {
-        false
-    } else {
-        taken_in(config, table, second.value, third.value)
-    }
+    !was_taken && Tabled { config, table }.is_taken(second.value, third.value)
 }
 
 // Whether a call meets none of the refusals 3 to 7, 12 and 13, where the policy does not ask about the tuples.
+#[tactic(auto, using(crate::proofs::TablingSteps::permitted))]
 fn is_permitted(config: Config, table: &[u64; PLACES], call: Call) -> bool
-    ensures { result ≡ is_permit (first_refusal config call (lent_verdict config table.now call)) }
+    ensures { result ≡ is_ok (first_refusal config call (lent_verdict config table.now call)) }
 {
-    if let Fault::Present(_) = call.fault() {
-        return false;
-    }
-    match lent_refusal(config, table, call) {
-        Verdict::Permit => true,
-        Verdict::Refuse(_) => false,
-    }
+    call.fault().is_ok() && lent_refusal(config, table, call).is_ok()
 }
 
 // The place from which on the tuples before one are asked whether they hold its call: a cas is held by any of them, an out by none.
@@ -87,18 +72,21 @@ fn first_asked(code: u32, at: usize) -> usize
     if code == CAS { 0 } else { at }
 }
 
-// Whether a tuple is a decision of the round of another, with as many fields.
+// Whether one of these tuples is a decision of the round of another, with as many fields.
+fn is_decided(tuples: &[Tuple], tuple: Tuple) -> bool
+    ensures { result ≡ list_any (decides_too tuple) tuples.now }
+{
+    tuples.iter().any(|other| decides_too(tuple, *other))
+}
+
+// Whether a tuple is a decision of the round of another, with as many fields. Most tuples of the round are proposals.
 fn decides_too(tuple: Tuple, other: Tuple) -> bool
     ensures { result ≡ decides_too tuple other }
 {
     let round = tuple.fields[1];
     let word = other.fields[0];
     let asked = other.fields[1];
-    if asked.value != round.value {
-        return false;
-    }
-    // Most tuples of the round are proposals.
-    if word.value != DECISION {
+    if asked.value != round.value || word.value != DECISION {
         return false;
     }
     if tuple.count == 4 {

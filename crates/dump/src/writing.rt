@@ -1,65 +1,50 @@
 // Writing a space as a script: what it is refused for, then the room, and only then the bytes.
-ghost use Rattle.std.specs.Prelude.{◌≡◌, true, cond, ◌+◌, ◌≤◌, leb, length, replicate};
+ghost use Rattle.std.specs.Prelude.{◌≡◌, true, ◌+◌, ◌≤◌, leb, length, replicate, Ok};
 ghost use Rattle.std.proofs.lemmas.List.Edits.{sets};
 ghost use Rattle.dump.specs.Dumps.{dump_calls, dump_bytes, dump_most, written_of, left_of};
-ghost use Rattle.dump.specs.Private.{Dumpable};
+ghost use Rattle.dump.specs.Private.{Dumpable, writable};
 ghost use Rattle.record.specs.Writing.{call_bytes};
-ghost use Rattle.record.specs.declared.writer.Recorded.TheVariants.{Unwritten};
 ghost use Rattle.script.specs.Scripts.{set_up_bytes, records_bytes};
 ghost use Rattle.space.specs.Configs.{sound};
-ghost use Rattle.space.specs.Spaces.{well_formed};
-ghost use Rattle.tuple.specs.declared.fault.Fault.TheVariants.{Absent};
 ghost use Rattle.tuple.specs.Faults.{call_fault};
-ghost use Rattle.tuple.specs.Refusals.{refusal};
 
 use crate::DUMP_BYTES;
 use crate::appending::call_of;
 use crate::reaching::is_reached;
-use record::{RECORD_BYTES, Recorded};
+use record::RECORD_BYTES;
 use space::{Config, Space};
-use tuple::{Call, Refusal};
+use tuple::{Call, Refusal, Verdict};
 
 // Puts a script whose run ends in the space at the start of buffer, and answers its length. Refused 1 if the space is not well formed, then 15 if its
 // policy is 5, then 14 if no script at all ends in it, then 10 if the buffer is shorter.
-pub fn write(space: Space, buffer: &mut [u8]) -> Recorded
+pub fn write(space: Space, buffer: &mut [u8]) -> Result<usize, Refusal>
     ensures value { result ≡ written_of space (length buffer.old) }
     ensures buffer_after { buffer.new ≡ left_of space buffer.old }
 {
-    if space.config.has_announcements() {
-        return unscripted(space);
-    }
-    write_script(space, buffer)
-}
-
-// What a space under policy 5 is answered.
-fn unscripted(space: Space) -> Recorded
-    ensures { result ≡ cond (well_formed space) (Unwritten (refusal 15)) (Unwritten (refusal 1)) }
-{
-    if space.is_well_formed() {
-        Recorded::Unwritten(Refusal::Unscripted)
-    } else {
-        Recorded::Unwritten(Refusal::Unsound)
-    }
-}
-
-// Under the other policies.
-fn write_script(space: Space, buffer: &mut [u8]) -> Recorded
-    requires { space.config.policy ≡ 5 → ⊥ }
-    ensures value { result ≡ written_of space (length buffer.old) }
-    ensures buffer_after { buffer.new ≡ left_of space buffer.old }
-{
-    if !space.is_well_formed() {
-        return Recorded::Unwritten(Refusal::Unsound);
-    }
-    if !is_reached(space) {
-        return Recorded::Unwritten(Refusal::Unreached);
-    }
+    writable(space)?;
     if !has_room(space, buffer.len()) {
-        return Recorded::Unwritten(Refusal::NoRoom);
+        return Err(Refusal::NoRoom);
     }
     let config = space.config;
     put_set_up(buffer, config);
-    Recorded::Length(put_records(buffer, set_up_width(config), space))
+    Ok(put_records(buffer, set_up_width(config), space))
+}
+
+// Whether a space is written as a script, or what it is refused for whatever the buffer: 1, 15 or 14.
+#[tactic(auto, unfolding(crate::specs::Private::writable))]
+fn writable(space: Space) -> Verdict
+    ensures { result ≡ writable space }
+{
+    if !space.is_well_formed() {
+        return Err(Refusal::Unsound);
+    }
+    if space.config.has_announcements() {
+        return Err(Refusal::Unscripted);
+    }
+    if !is_reached(space) {
+        return Err(Refusal::Unreached);
+    }
+    Ok(())
 }
 
 // A buffer that has room for the script of every space.
@@ -76,11 +61,7 @@ fn has_room(space: Space, room: usize) -> bool
     requires { Dumpable space }
     ensures { result ≡ leb (length (dump_bytes space)) room }
 {
-    if DUMP_BYTES <= room {
-        return true;
-    }
-    let config = space.config;
-    set_up_width(config) + records_width(space) <= room
+    DUMP_BYTES <= room || set_up_width(space.config) + records_width(space) <= room
 }
 
 // Each number of a sound configuration has one.
@@ -96,27 +77,20 @@ fn records_width(space: Space) -> usize
     ensures { result ≡ length (records_bytes (dump_calls space)) }
 {
     let config = space.config;
-    let count = space.count;
     let mut n: usize = 0;
-    let mut i = 0;
-    while i < count {
-        let tuple = space.tuples[i];
-        n += record_width(call_of(config, tuple));
-        i += 1;
+    for tuple in &space.tuples[..space.count] {
+        n += record_width(call_of(config, *tuple));
     }
     n
 }
 
 // A record is measured by writing it.
 fn record_width(call: Call) -> usize
-    requires { call_fault call ≡ Absent }
+    requires { call_fault call ≡ Ok tt }
     ensures { result ≡ length (call_bytes call) }
 {
     let mut room = [0u8; RECORD_BYTES];
-    match record::write(call, &mut room) {
-        Recorded::Length(n) => n,
-        Recorded::Unwritten(_) => 0,
-    }
+    record::write(call, &mut room).unwrap_or(0)
 }
 
 // ---- the bytes
@@ -141,25 +115,18 @@ fn put_records(buffer: &mut [u8], at: usize, space: Space) -> usize
     ensures buffer_after { buffer.new ≡ sets buffer.old at (records_bytes (dump_calls space)) }
 {
     let config = space.config;
-    let count = space.count;
     let mut place = at;
-    let mut i = 0;
-    while i < count {
-        let tuple = space.tuples[i];
-        place = put_record(buffer, place, call_of(config, tuple));
-        i += 1;
+    for tuple in &space.tuples[..space.count] {
+        place = put_record(buffer, place, call_of(config, *tuple));
     }
     place
 }
 
 fn put_record(buffer: &mut [u8], at: usize, call: Call) -> usize
-    requires call_value { call_fault call ≡ Absent }
+    requires call_value { call_fault call ≡ Ok tt }
     requires call_in_bounds { at + length (call_bytes call) ≤ length buffer.old }
     ensures value { result ≡ at + length (call_bytes call) }
     ensures buffer_after { buffer.new ≡ sets buffer.old at (call_bytes call) }
 {
-    match record::write(call, &mut buffer[at..]) {
-        Recorded::Length(n) => at + n,
-        Recorded::Unwritten(_) => at,
-    }
+    at + record::write(call, &mut buffer[at..]).unwrap_or(0)
 }

@@ -14,24 +14,24 @@ use borrow.Table.Steps.{cases}
 use Rattle.monitor.specs.Laws.{FreeChoice}
 use Rattle.calls.specs.declared.turn.Applied.{Applied}
 use Rattle.calls.specs.Turns.{last, applied}
-use Rattle.policy.specs.declared.verdicts.Verdict.TheVariants.{Permit}
+use Rattle.std.specs.Prelude.{Err, Ok, Result}
 use Rattle.policy.specs.Laws.{OwnProposal}
 use Rattle.policy.specs.Policies.{verdict_on}
 use Rattle.process.specs.declared.process.Next.{Next}
-use Rattle.process.specs.declared.process.Next.TheVariants.{Calls, Decides, Refuses}
+use Rattle.process.specs.declared.process.Next.TheVariants.{Calls, Decides}
 use Rattle.process.specs.declared.process.Phase.{Phase}
 use Rattle.process.specs.declared.process.Phase.TheVariants.{Proposing, Reading, Deciding, Decided}
 use Rattle.process.specs.declared.process.Process.{Process}
 use Rattle.process.specs.declared.process.Step.{Step}
 use Rattle.process.specs.Asks.{out_call}
 use Rattle.process.specs.Fits.{fits}
-use Rattle.process.specs.Procedure.{proposable, started, noted, advanced, is_decided, resumed}
+use Rattle.process.specs.Procedure.{proposable, begun, started, noted, advanced, is_decided, resumed}
 use Rattle.process.specs.States.{well_formed}
 use Rattle.process.specs.Tallies.{settled}
-use Rattle.process.proofs.KeptLaws.{started-begun}
+use Rattle.process.proofs.KeptLaws.{started-begun, started-parts}
 use Rattle.record.specs.Writing.{Typed}
 use Rattle.process.proofs.StateLaws.{known-rule}
-use Rattle.runs.specs.Correct.{Standing, Watch, started_by, state_of, handed, took_turn, Correct}
+use Rattle.runs.specs.Correct.{Standing, Watch, begun as begun·, state_of, went_on, handed, took_turn, Correct}
 use Rattle.runs.specs.Correct.Standing.{idle, busy}
 use Rattle.runs.specs.Laws.{MayCall}
 use Rattle.runs.specs.Laws.MayCall.{begins, goes_on}
@@ -40,7 +40,7 @@ use Rattle.runs.proofs.Configs.{config-startable, permitted-out, stays}
 use Rattle.runs.proofs.MonitorLaws.{monitor-rules}
 use Rattle.runs.proofs.Monitoring.{right-same, taken}
 use Rattle.runs.proofs.Replies.{proposes}
-use Rattle.runs.proofs.Starting.{entered-rule, started-parts, started-call, started-again, due-rule}
+use Rattle.runs.proofs.Starting.{entered-rule, started-call, started-again, due-rule}
 use Rattle.runs.proofs.Turning.{last_more}
 use Rattle.runs.proofs.Watching.{here, held-here}
 use Rattle.space.specs.declared.config.Config.{Config}
@@ -51,9 +51,9 @@ use Rattle.space.specs.declared.space.Space.{Space}
 use Rattle.space.specs.Spaces.{held}
 use Rattle.space.proofs.CodeLaws.{offered-small}
 use Rattle.space.proofs.SpaceRules.{held_of}
-use Rattle.tuple.specs.declared.fault.Fault.TheVariants.{Absent}
 use Rattle.tuple.specs.declared.field.Call.{Call}
 use Rattle.tuple.specs.declared.offset.Offset.{Offset}
+use Rattle.tuple.specs.declared.refusal.Refusal.{Refusal}
 use Rattle.tuple.specs.declared.reply.Reply.{Reply}
 use Rattle.tuple.specs.Faults.{uses_template, uses_entry, call_fault}
 use Rattle.tuple.specs.Fields.{blank_tuple}
@@ -74,19 +74,28 @@ advanced-round p reply (Reading asked) =
 advanced-round p reply Deciding = refl
 advanced-round p reply (Decided code) = refl
 
-resumed-round : (p : Process) (reply : Reply) → (resumed p reply).process.round ≡ p.round
+resumed-round : (p : Process) (reply : Reply) (step : Step) → resumed p reply ≡ Ok step → step.process.round ≡ p.round
 unfolding resumed
-resumed-round p reply =
+resumed-round p reply step e =
     cases (well_formed p)
-    (λ formed. cases (is_decided p.phase || fits p reply) (λ fit. rw (formed, fit) (advanced-round p reply p.phase)) (λ unfit. rw (formed, unfit)))
-    (λ formed. rw formed)
+    (λ formed. cases (is_decided p.phase || fits p reply)
+    (λ fit.
+    let goes = rw (formed, fit) at e in
+    let same : step ≡ advanced p reply p.phase = cc in
+    ap (λ (s : Step). s.process.round) same ∙ advanced-round p reply p.phase)
+    (λ unfit. let refused = rw (formed, unfit) at e in let z : ◌≡◌ {A = ℕ} 0 1 = cc in absurd (omega arith)))
+    (λ unformed. let refused = rw unformed at e in let z : ◌≡◌ {A = ℕ} 0 1 = cc in absurd (omega arith))
+
+went-same : (state : Process) (next : Next) {then : Process} {call : Call} → went_on state next ≡ busy then call → state ≡ then
+went-same state (Calls next) e = cc
+went-same state (Decides offset) e = let z : ◌≡◌ {A = ℕ} 0 1 = cc in absurd (omega arith)
 
 -- a call is due in the round of the state that took the reply
-handed-round : (state : Process) (reply : Reply) (next : Next) {then : Process} {call : Call} → handed state (resumed state reply) next ≡ busy then call → then.round ≡ state.round
-handed-round state reply Calls {then} e =
-    let same : (resumed state reply).process ≡ then = cc in ap (λ (p : Process). p.round) (sym same) ∙ resumed-round state reply
-handed-round state reply (Decides offset) e = let z : ◌≡◌ {A = ℕ} 0 1 = cc in absurd (omega arith)
-handed-round state reply (Refuses why) e = let z : ◌≡◌ {A = ℕ} 0 1 = cc in absurd (omega arith)
+handed-round : (state : Process) (reply : Reply) (answer : Result Step Refusal) → resumed state reply ≡ answer → {then : Process} {call : Call} → handed state answer ≡ busy then call
+    → then.round ≡ state.round
+handed-round state reply (Ok step) goes e =
+    ap (λ (p : Process). p.round) (sym (went-same step.process step.next e)) ∙ resumed-round state reply step goes
+handed-round state reply (Err why) goes e = let z : ◌≡◌ {A = ℕ} 0 1 = cc in absurd (omega arith)
 
 -- ---- one call after the other
 
@@ -115,11 +124,11 @@ module _ {config : Config} (safe : SoundConfig config) {q : ℕ} where
 
   module _ {calls : List Call} (c : Correct config calls q) (call : Call) where
     -- its out puts its proposal
-    out-placed : (round : ℕ) (offset : Offset) → (Memᴰ round c.watch.entered → ⊥) → (started config q round offset).next ≡ Calls
+    out-placed : (round : ℕ) (offset : Offset) (step : Step) → (Memᴰ round c.watch.entered → ⊥) → started config q round offset ≡ Ok step
         → out_call q round (code_of offset) ≡ call → Placed (held (last config (calls ++ (call ∷ [])))) round q
     unfolding has_shape
-    out-placed round offset never goes same =
-        let parts = started-parts config q round offset goes in
+    out-placed round offset step never goes same =
+        let parts = started-parts config q round offset step goes in
         let code = (and-eq-true_iff (in_range offset) (offered config (code_of offset))).0 parts.1 in
         let at = here safe c in
         let entry = proposal round q (code_of offset) in
@@ -138,12 +147,11 @@ module _ {config : Config} (safe : SoundConfig config) {q : ℕ} where
       own-placed : {standing : Standing} → standing ≡ c.watch.standing → MayCall config q c.watch.entered call standing
           → Placed (held (last config (calls ++ (call ∷ [])))) (state_of config q standing call).round q
       own-placed e (goes_on state) = more-placed calls call state.round (begun.placed state.round (begun.within state call (sym e)))
-      own-placed e (begins round offset never goes same) =
-          let parts = started-parts config q round offset goes in
+      own-placed e (begins round offset step never goes next) =
           let in-round : (state_of config q idle call).round ≡ round =
-          ap (λ (x : Call). (started_by config q x.entry).process.round) (sym same)
-          ∙ ap (λ (step : Step). step.process.round) (started-again config q round offset goes ∙ started-begun config q round offset parts.0 parts.1) in
-          rw in-round (out-placed round offset never goes (sym (started-call config q round offset goes) ∙ same))
+          ap (λ (started : Result Step Refusal). (begun· started).round) (started-again config q round offset step call goes next)
+          ∙ ap (λ (one : Step). one.process.round) (started-parts config q round offset step goes).2 in
+          rw in-round (out-placed round offset step never goes (sym (started-call config q round offset step call goes next)))
 
       -- after a call of its own
       own-begun : call.process ≡ q → MayCall config q c.watch.entered call c.watch.standing
@@ -158,7 +166,7 @@ module _ {config : Config} (safe : SoundConfig config) {q : ℕ} where
           (record {
             placed = λ round m. ⊎_elim (λ (now : round ≡ state.round). rw now (own-placed refl may))
                 (λ old. more-placed calls call round (begun.placed round old)) (Memᴰ.cases_cons m);
-            within = λ then next e. Memᴰ.head (handed-round state reply (resumed state reply).next e);
+            within = λ then next e. Memᴰ.head (handed-round state reply (resumed state reply) refl e);
           })
 
   none-begun : (c : Correct config [] q) → Begun config q [] c.watch
@@ -189,7 +197,7 @@ module _ {config : Config} (safe : SoundConfig config) {q : ℕ} where
 -- ---- what the policy permits
 
 -- an out without fault of a proposal of its own is what starting gives
-out-call : (call : Call) → Typed call → call.code ≡ 1 → call_fault call ≡ Absent → is_proposal call.entry ≡ true → process_of call.entry ≡ call.process
+out-call : (call : Call) → Typed call → call.code ≡ 1 → call_fault call ≡ Ok tt → is_proposal call.entry ≡ true → process_of call.entry ≡ call.process
     → out_call call.process (round_of call.entry) (proposed_code call.entry) ≡ call
 unfolding uses_template uses_entry
 out-call call typed code faultless shape own =
@@ -202,16 +210,16 @@ out-call call typed code faultless shape own =
     λ j. record { process = call.process; code = sym code j; template = template j; entry = numbered j }
 
 module _ {config : Config} (safe : SoundConfig config) {q : ℕ} {calls : List Call} (c : Correct config calls q) (call : Call) where
-  begun-permitted : MayCall config q c.watch.entered call idle → verdict_on config (held (last config calls)) call ≡ Permit
+  begun-permitted : MayCall config q c.watch.entered call idle → verdict_on config (held (last config calls)) call ≡ Ok tt
   unfolding has_shape
-  begun-permitted (begins round offset never goes same) =
-      let parts = started-parts config q round offset goes in
+  begun-permitted (begins round offset step never goes next) =
+      let parts = started-parts config q round offset step goes in
       let may = ((and-eq-true_iff (in_range offset) (offered config (code_of offset))).0 parts.1).1 in
-      subst (λ (x : Call). verdict_on config (held (last config calls)) x ≡ Permit) (sym (started-call config q round offset goes) ∙ same)
+      subst (λ (x : Call). verdict_on config (held (last config calls)) x ≡ Ok tt) (sym (started-call config q round offset step call goes next))
       ((permitted-out safe (held (last config calls)) (out_call q round (code_of offset)) refl).1
       (record { shape = refl; in-rounds = ltb-true round rounds parts.0.in-rounds; own = refl; may = may; free = free safe c round never }))
 
-  permitted-begins : Typed call → call.process ≡ q → call.code ≡ 1 → call_fault call ≡ Absent → OwnProposal config (held (last config calls)) call
+  permitted-begins : Typed call → call.process ≡ q → call.code ≡ 1 → call_fault call ≡ Ok tt → OwnProposal config (held (last config calls)) call
       → MayCall config q c.watch.entered call idle
   permitted-begins typed own code faultless p =
       let round = round_of call.entry in
@@ -219,16 +227,14 @@ module _ {config : Config} (safe : SoundConfig config) {q : ℕ} {calls : List C
       let offset = offset_of number in
       let some : proposable config offset ≡ true =
       rw (one-to-one.decoded number (offered-small config number p.may), one-to-one.forth number, p.may) in
-      let goes : (started config q round offset).next ≡ Calls =
-      ap (λ (step : Step). step.next) (started-begun config q round offset
-      (record { start = config-startable safe; member = (known-rule config q).1 (c.some, c.few); in-rounds = lt-ltb round rounds p.in-rounds }) some) in
-      begins round offset
+      begins round offset (begun config q round offset)
       (λ m. p.free (subst (Placed (held (last config calls)) round) (sym own) ((all-begun safe calls c).placed round m)))
-      goes
-      (started-call config q round offset goes
-      ∙ ap (out_call q round) (one-to-one.forth number)
+      (started-begun config q round offset
+      (record { start = config-startable safe; member = (known-rule config q).1 (c.some, c.few); in-rounds = lt-ltb round rounds p.in-rounds }) some)
+      (ap Calls
+      (ap (out_call q round) (one-to-one.forth number)
       ∙ ap (λ (k : ℕ). out_call k round number) (sym own)
-      ∙ out-call call typed code faultless p.shape p.own)
+      ∙ out-call call typed code faultless p.shape p.own))
 
 pub free-choice : FreeChoice
 free-choice config calls q call safe c rests typed own code faultless =

@@ -21,7 +21,7 @@ use Rattle.script.specs.Scripts.{config_of, script_head, records_from, records_a
 use Rattle.space.specs.Configs.{choice_sound, plain_sound, sound, has_proposals, has_list, known}
 use Rattle.space.specs.Members.{beyond, within, every, counted, strike}
 use Rattle.space.specs.Proposals.{is_choice, offered, decidable, proposes, proposed, every_proposed, backers, crowded_by}
-use Rattle.space.specs.Spaces.{place_sound, places_from, table_sound, bounded, well_formed, fresh_of}
+use Rattle.space.specs.Spaces.{place_sound, places_from, table_sound, bounded, well_formed, fresh_space}
 use Rattle.space.specs.Tables.{has_place, code_at, belongs, entered, table_from, empty_table, fits_table, tabled_from, same_from}
 use Rattle.tuple.specs.Equality.{same_field, same_fields, same_tuple, same_call}
 use Rattle.tuple.specs.Faults.{known_head, field_fault, fields_fault, tuple_fault, part_fault, uses_template, uses_entry, used_fault, is_blank, place_blank, rest_from, rest_blank, call_fault, is_entry}
@@ -39,7 +39,7 @@ unfolding script_in bytes_in stray_of stray_on earliest script_head config_of re
     carried_out effect first_refusal searched applied turns_from turns
     bears_bottom is_own_proposal is_free out_verdict is_decision_call bears_offset bears cas_verdict justified verdict_on
     choice_sound plain_sound sound has_proposals has_list known beyond within every counted strike is_choice offered decidable proposes proposed every_proposed backers crowded_by
-    place_sound places_from table_sound has_place code_at belongs entered table_from empty_table fits_table tabled_from same_from bounded well_formed fresh_of
+    place_sound places_from table_sound has_place code_at belongs entered table_from empty_table fits_table tabled_from same_from bounded well_formed fresh_space
     known_head field_fault fields_fault tuple_fault part_fault uses_template uses_entry used_fault is_blank place_blank rest_from rest_blank call_fault is_entry
     largest_of field_matches fields_match matches oldest_from oldest_of ones has_shape
 example-strays = refl

@@ -1,5 +1,5 @@
 -- A script and a set are refused exactly in the order of the law, from the definition, the head of a script and the first fault of a set-up.
-use mathlib.Core.Path.{◌≡◌, refl, sym, ap, ◌∙◌, subst}
+use mathlib.Core.Path.{◌≡◌, refl, sym, ◌∙◌, subst}
 use mathlib.Core.Bool.{true, false, false≢true}
 use mathlib.Core.List.{List}
 use mathlib.Core.Logic.{inl, inr}
@@ -9,15 +9,11 @@ use lib.Dec.{eqb, leb}
 use lib.ListN.{length}
 use borrow.Author.Tests.{eqb-true, eqb-false, leb-true, leb-false, le-leb, lt-leb}
 use borrow.Table.Steps.{cases}
-use Rattle.monitor.specs.declared.stray.Stray.{Stray}
-use Rattle.monitor.specs.declared.stray.Stray.TheVariants.{Refused}
+use Rattle.std.specs.Prelude.{Err, Ok, Option, Result}
 use Rattle.monitor.specs.Laws.{Judged, RefusedFor, RefusalOrder}
 use Rattle.monitor.specs.Laws.RefusedFor.{long, unreadable, unsound, beyond}
 use Rattle.monitor.specs.Strays.{earliest, stray_at, stray_in, stray_on, stray_step, stray_of}
-use Rattle.record.specs.declared.reader.Next.{Next}
-use Rattle.record.specs.declared.reader.Next.TheVariants as next
-use Rattle.record.specs.Reading.{place}
-use Rattle.script.specs.declared.setup.ReadConfig.{ReadConfig}
+use Rattle.record.specs.Reading.{Reading, place, onward}
 use Rattle.script.specs.Scripts.{script_bytes, sound_step, config_of, script_head, records_at}
 use Rattle.script.proofs.SetUpLaws.{two-or-three, set-up-faults}
 use Rattle.space.specs.declared.config.Config.{Config}
@@ -51,15 +47,12 @@ member-above n set h = let found = bit-above n set (omega (arith, eqb-false (lef
 
 module _ (s : List ℕ) (set : ℕ) where
   -- a refusal, or a script that is not refused
-  pub data Comes : Stray → Type 0 where
-    refused : {why : Refusal} → RefusedFor s set why → Comes (Refused why)
+  pub data Comes : Result (Option ℕ) Refusal → Type 0 where
+    refused : {why : Refusal} → RefusedFor s set why → Comes (Err why)
     judged : (config : Config) (calls : List Call) → Judged s set config calls → Comes (stray_in config calls set)
 
   module _ (short : length s ≤ 65_536) where
-    module _ (at : ℕ) (config : Config) (read : config_of s ≡ record { next = next.At (record { at = at }); config = config }) where
-      reads : (config_of s).next ≡ place at
-      reads = ap (λ (r : ReadConfig). r.next) read
-
+    module _ (config : Config) (at : ℕ) (read : config_of s ≡ Ok (config, place at)) where
       by-set : sound config ≡ true → Comes (stray_on s at config set)
       unfolding stray_on
       by-set good =
@@ -75,53 +68,50 @@ module _ (s : List ℕ) (set : ℕ) where
             reads = refl;
           })))
           (λ w. let above = member-above config.n set w in
-          rw (p, w) (refused (beyond at short reads (rw read good) (rw read ((proposals-rule config).0 p)) above.0 above.1 (rw read above.2)))))
-          (λ p. rw p (refused (unsound at short reads (inr (rw read (λ decides. false≢true (sym p ∙ (proposals-rule config).1 decides)))))))
+          rw (p, w) (refused (beyond config at short read good ((proposals-rule config).0 p) above.0 above.1 above.2))))
+          (λ p. rw p (refused (unsound config at short read (inr (λ decides. false≢true (sym p ∙ (proposals-rule config).1 decides))))))
 
-      by-soundness : Comes (stray_step s set (sound_step (record { next = place at; config = config })).config (sound_step (record { next = place at; config = config })).next)
+      by-soundness : Comes (stray_step s set (sound_step config at))
       by-soundness =
           cases (sound config)
           (λ good. rw good (by-set good))
-          (λ bad. rw bad (refused (unsound at short reads (inl (rw read bad)))))
+          (λ bad. rw bad (refused (unsound config at short read (inl bad))))
 
-    by_next : (next : Next) (config : Config) → config_of s ≡ record { next = next; config = config }
-        → Comes (stray_step s set (sound_step (record { next = next; config = config })).config (sound_step (record { next = next; config = config })).next)
-    by_next (next.At cursor) config read = by-soundness cursor.at config read
-    by_next (next.Refused why) config read =
-        let e : (config_of s).next ≡ next.Refused why = ap (λ (r : ReadConfig). r.next) read in
-        refused (unreadable why short e (two-or-three s (number_of why) ((set-up-faults s why).when.0 e)))
+    by-read : (read : Reading Config) → config_of s ≡ read → Comes (stray_step s set (onward read sound_step))
+    by-read (Ok (config, cursor)) e = by-soundness config cursor.at e
+    by-read (Err why) e = refused (unreadable why short e (two-or-three s (number_of why) ((set-up-faults s why).0 e)))
 
   pub comes : Comes (stray_of s set)
   unfolding stray_of script_head
   comes =
       cases (leb (length s) script_bytes)
-      (λ e. rw e (by_next (leb-true (length s) script_bytes e) (config_of s).next (config_of s).config refl))
+      (λ e. rw e (by-read (leb-true (length s) script_bytes e) (config_of s) refl))
       (λ e. rw e (refused (long (leb-false (length s) script_bytes e))))
 
   -- ---- the order
 
-  never-refused : (number : ℕ) {why : Refusal} → stray_at number ≡ Refused why → ⊥
+  never-refused : (number : ℕ) {why : Refusal} → stray_at number ≡ Err why → ⊥
   never-refused number =
       cases (eqb number 0)
       (λ e. rw e (λ h. let z : ◌≡◌ {A = ℕ} 0 1 = cc in omega arith))
       (λ e. rw e (λ h. let z : ◌≡◌ {A = ℕ} 0 1 = cc in omega arith))
 
-  refused-for : {stray : Stray} → Comes stray → {why : Refusal} → stray ≡ Refused why → RefusedFor s set why
+  refused-for : {stray : Result (Option ℕ) Refusal} → Comes stray → {why : Refusal} → stray ≡ Err why → RefusedFor s set why
   refused-for (refused {why = first} r) {why} e = let same : first ≡ why = cc in subst (RefusedFor s set) same r
   refused-for (judged config calls j) e = absurd (never-refused (earliest config calls config.n 1 set) e)
 
-  for-refused : {why : Refusal} → RefusedFor s set why → stray_of s set ≡ Refused why
+  for-refused : {why : Refusal} → RefusedFor s set why → stray_of s set ≡ Err why
   unfolding stray_of script_head stray_on
   for-refused (long many) = rw (lt-leb (length s) script_bytes many)
   for-refused (unreadable why short e two) = rw (le-leb (length s) script_bytes short, e)
-  for-refused (unsound at short e (inl bad)) = rw (le-leb (length s) script_bytes short, e, bad)
-  for-refused (unsound at short e (inr other)) =
-      let none : has_proposals (config_of s).config ≡ false = cases (has_proposals (config_of s).config) (λ p. absurd (other ((proposals-rule (config_of s).config).0 p))) (λ p. p) in
-      rw (le-leb (length s) script_bytes short, e) (cases (sound (config_of s).config) (λ good. rw (good, none)) (λ bad. rw bad))
-  for-refused (beyond at short e good decides k member above) =
-      let out : within (config_of s).config.n set ≡ false =
-      cases (within (config_of s).config.n set) (λ w. absurd (omega (arith, (within-rule (config_of s).config.n set).0 w k member))) (λ w. w) in
-      rw (le-leb (length s) script_bytes short, e, good, (proposals-rule (config_of s).config).1 decides, out)
+  for-refused (unsound config at short e (inl bad)) = rw (le-leb (length s) script_bytes short, e, bad)
+  for-refused (unsound config at short e (inr other)) =
+      let none : has_proposals config ≡ false = cases (has_proposals config) (λ p. absurd (other ((proposals-rule config).0 p))) (λ p. p) in
+      rw (le-leb (length s) script_bytes short, e) (cases (sound config) (λ good. rw (good, none)) (λ bad. rw bad))
+  for-refused (beyond config at short e good decides k member above) =
+      let out : within config.n set ≡ false =
+      cases (within config.n set) (λ w. absurd (omega (arith, (within-rule config.n set).0 w k member))) (λ w. w) in
+      rw (le-leb (length s) script_bytes short, e, good, (proposals-rule config).1 decides, out)
 
 pub refusal-order : RefusalOrder
 refusal-order s set why = (refused-for s set (comes s set), for-refused s set)

@@ -9,7 +9,7 @@ use lib.Dec.{eqb, leb}
 use lib.ListN.{length}
 use borrow.Author.Tests.{leb-true, leb-false}
 use borrow.Table.Steps.{cases}
-use Rattle.monitor.specs.declared.stray.Stray.TheVariants.{Nobody, At}
+use Rattle.std.specs.Prelude.{None, Ok, Some}
 use Rattle.monitor.specs.Laws.{Judged, RefusedStrays}
 use Rattle.monitor.specs.Strays.{earliest, stray_of}
 use Rattle.monitor.proofs.StrayLaws.{strays-in, correct-up, earlier, follow-rule, stray-rule}
@@ -27,7 +27,7 @@ use Rattle.runs.proofs.Starting.{due-rule}
 use Rattle.space.specs.declared.config.Config.{Config}
 use Rattle.space.specs.declared.space.Space.{Space}
 use Rattle.space.specs.Members.{Member}
-use Rattle.space.specs.Spaces.{fresh_of}
+use Rattle.space.specs.Spaces.{fresh_space}
 use Rattle.tuple.specs.declared.field.Call.{Call}
 use Rattle.tuple.specs.declared.refusal.Refusal.{Refusal}
 use Rattle.tuple.specs.declared.reply.Outcome.TheVariants.{Refused}
@@ -88,7 +88,7 @@ never-refused config safe before call d e =
 -- ---- the law
 
 -- all follow, or some record is the answer
-answers : {s : List ℕ} {set : ℕ} {config : Config} {calls : List Call} → Judged s set config calls → (stray_of s set ≡ Nobody) ⊎ ((j : ℕ) × (stray_of s set ≡ At j))
+answers : {s : List ℕ} {set : ℕ} {config : Config} {calls : List Call} → Judged s set config calls → (stray_of s set ≡ Ok None) ⊎ ((j : ℕ) × (stray_of s set ≡ Ok (Some j)))
 answers {set = set} {config} {calls} judged =
     let number = earliest config calls config.n 1 set in
     cases (eqb number 0) (λ e. inl (strays-in judged ∙ rw e)) (λ e. inr (number, strays-in judged ∙ rw e))
@@ -96,7 +96,7 @@ answers {set = set} {config} {calls} judged =
 pub refused-strays : RefusedStrays
 unfolding turns
 refused-strays s set config calls made later turn why judged e member answer =
-    let t = turn-of (fresh_of config).space calls made turn later e in
+    let t = turn-of (fresh_space config) calls made turn later e in
     let own : turn.call.process ≡ t.call.process = ap (λ (x : Turn). x.call.process) t.same in
     let here : Member t.call.process set = rw own at member in
     let no : Correct config (t.before ++ (t.call ∷ [])) t.call.process → ⊥ =

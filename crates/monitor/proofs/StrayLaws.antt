@@ -9,7 +9,7 @@ use lib.ListN.{length, length-append}
 use lib.Seq.{append_snoc}
 use borrow.Author.Tests.{eqb-true, eqb-false, ltb-true, ltb-false, le-leb}
 use borrow.Table.Steps.{cases}
-use Rattle.monitor.specs.declared.stray.Stray.TheVariants.{Nobody, At}
+use Rattle.std.specs.Prelude.{None, Ok, Some}
 use Rattle.monitor.specs.Laws.{Judged, FollowRule, FirstStray, StrayRule}
 use Rattle.monitor.specs.Strays.{wrong_at, stray_at, stray_in, stray_on, stray_of}
 use Rattle.monitor.proofs.EarliestLaws.{wrong_of, first, least-member, some-member}
@@ -143,17 +143,17 @@ module _ (config : Config) (calls : List Call) (set : ℕ) (members : (k : ℕ) 
 
 -- ---- the rules
 
-at_none : (number : ℕ) → (stray_at number ≡ Nobody) ↔ (number ≡ 0)
+at_none : (number : ℕ) → (stray_at number ≡ Ok None) ↔ (number ≡ 0)
 at_none number =
     cases (eqb number 0)
     (λ e. rw e (λ h. eqb-true number 0 e, λ n. refl))
     (λ e. rw e (λ h. let z : ◌≡◌ {A = ℕ} 0 1 = cc in absurd (omega arith), λ n. absurd (eqb-false number 0 e n)))
 
-at_some : (number i : ℕ) → (stray_at number ≡ At i) ↔ ((1 ≤ number) × (number ≡ i))
+at_some : (number i : ℕ) → (stray_at number ≡ Ok (Some i)) ↔ ((1 ≤ number) × (number ≡ i))
 at_some number i =
     cases (eqb number 0)
     (λ e. rw e (λ h. let z : ◌≡◌ {A = ℕ} 0 1 = cc in absurd (omega arith), λ n. absurd (omega (arith, eqb-true number 0 e, n.0))))
-    (λ e. rw e (λ h. (omega (arith, eqb-false number 0 e), cc), λ n. ap At n.1))
+    (λ e. rw e (λ h. (omega (arith, eqb-false number 0 e), cc), λ n. ap (λ (j : ℕ). Ok (Some j)) n.1))
 
 pub follow-rule : FollowRule
 follow-rule s set config calls j =

@@ -1,12 +1,8 @@
--- What is kept of a process that is watched, over plain values: a number that stands for no offset begins no round, and after the reply to a due call what is
--- kept stands for what the monitor of `runs` keeps. From the definitions.
+-- Starting a process that is watched, over plain values: a number that stands for no offset begins no round. From the definitions.
 use mathlib.Core.Path.{◌≡◌, refl}
 use mathlib.Core.Bool.{false, cond, not, and-false}
-use mathlib.Core.List.{List, [], ◌∷◌}
-use Prim.Native.Nat.{ℕ, zero, suc, ◌≤◌, ◌<◌}
-use native.Mathlib.Omega.{arith}
+use Prim.Native.Nat.{ℕ, ◌<◌}
 use lib.Dec.{leb, eqb}
-use lib.ListN.{length, get_or}
 use borrow.Author.Tests.{leb-false, lt-leb}
 use borrow.Table.Steps.{cases}
 use Rattle.process.specs.Procedure.{proposable, started}
@@ -17,12 +13,6 @@ use Rattle.tuple.specs.declared.offset.Offset.TheVariants.{Bottom}
 use Rattle.tuple.specs.Bounds.{largest_code}
 use Rattle.tuple.specs.Offsets.{bottom, in_range, offset_of}
 use Rattle.tuple.proofs.OffsetLaws.{one-to-one}
-
--- outside a list nothing is begun
-pub none_out : (l : List ℕ) (i : ℕ) → length l ≤ i → get_or l i 0 ≡ 0
-none_out [] i h = refl
-none_out (x ∷ l) zero h = absurd (omega arith)
-none_out (x ∷ l) (suc i) h = none_out l i (omega arith)
 
 -- ---- starting
 
@@ -40,8 +30,8 @@ module _ (config : Config) (process round : ℕ) where
   unfolding offered
   beyond-none code h = rw (one-to-one.forth code, lt-leb code largest_code h, and-false (not (eqb code bottom)), and-false (in_range (offset_of code)))
 
-  pub started-meant : (code : ℕ) → started config process round (cond (leb code largest_code) (offset_of code) Bottom) ≡ started config process round (offset_of code)
-  started-meant code =
+  pub started_meant : (code : ℕ) → started config process round (cond (leb code largest_code) (offset_of code) Bottom) ≡ started config process round (offset_of code)
+  started_meant code =
       cases (leb code largest_code)
       (λ e. rw e)
       (λ e. rw e (started_none Bottom (offset_of code) bottom-none (beyond-none code (leb-false code largest_code e))))

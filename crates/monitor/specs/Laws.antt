@@ -1,12 +1,9 @@
 -- Document 02, 2.11: the laws of the first stray, as claims over the definitions. All but that of refusals speak of a script that is not refused, in numbers.
-use Rattle.std.specs.Prelude.{◌≡◌, true, false, List, [], ◌∷◌, ◌++◌, ◌↔◌, ◌⊎◌, ℕ, ◌+◌, ◌-◌, ◌≤◌, ◌<◌, length, take}
+use Rattle.std.specs.Prelude.{◌≡◌, true, false, List, [], ◌∷◌, ◌++◌, ◌↔◌, ◌⊎◌, ℕ, ◌+◌, ◌-◌, ◌≤◌, ◌<◌, length, take, Err, None, Ok, Some}
 use Rattle.std.specs.Int.Count.{ones}
-use Rattle.monitor.specs.declared.stray.Stray.TheVariants.{Nobody, At, Refused}
 use Rattle.monitor.specs.Strays.{stray_of}
 use Rattle.calls.specs.Turns.{last, Turn, turns}
-use Rattle.policy.specs.declared.verdicts.Verdict.TheVariants.{Permit}
 use Rattle.policy.specs.Policies.{verdict_on}
-use Rattle.record.specs.declared.reader.Next.TheVariants as next
 use Rattle.record.specs.Reading.{place}
 use Rattle.record.specs.Writing.{Typed}
 use Rattle.runs.specs.Correct.{Correct}
@@ -18,7 +15,6 @@ use Rattle.space.specs.declared.config.Config.{Config}
 use Rattle.space.specs.Configs.{sound}
 use Rattle.space.specs.Members.{Member}
 use Rattle.space.specs.Spaces.{held}
-use Rattle.tuple.specs.declared.fault.Fault.TheVariants.{Absent}
 use Rattle.tuple.specs.declared.field.Call.{Call}
 use Rattle.tuple.specs.declared.refusal.Refusal.{Refusal}
 use Rattle.tuple.specs.declared.reply.Outcome.TheVariants as outcome
@@ -34,7 +30,7 @@ Decides config = (config.policy ≡ 2) ⊎ (config.policy ≡ 3)
 pub record Judged (s : List ℕ) (set : ℕ) (config : Config) (calls : List Call) : Type 0 where
   pub short : length s ≤ 65_536
   pub at : ℕ
-  pub set-up : config_of s ≡ record { next = place at; config = config }
+  pub set-up : config_of s ≡ Ok (config, place at)
   pub good : sound config ≡ true
   pub policy : Decides config
   pub members : (k : ℕ) → Member k set → k ≤ config.n
@@ -47,7 +43,7 @@ abbrev pub FollowRule : Type 0
 FollowRule =
     (s : List ℕ) (set : ℕ) (config : Config) (calls : List Call)
     → Judged s set config calls
-    → (stray_of s set ≡ Nobody) ↔ ((k : ℕ) → Member k set → Correct config calls k)
+    → (stray_of s set ≡ Ok None) ↔ ((k : ℕ) → Member k set → Correct config calls k)
 
 -- the first record in which a member makes a call that the procedure would not make there: every member is correct on the calls before it, and the one
 -- under whose number it stands is not with it
@@ -65,11 +61,11 @@ abbrev pub StrayRule : Type 0
 StrayRule =
     (s : List ℕ) (set : ℕ) (config : Config) (calls : List Call) (i : ℕ)
     → Judged s set config calls
-    → (stray_of s set ≡ At i) ↔ FirstStray config calls set i
+    → (stray_of s set ≡ Ok (Some i)) ↔ FirstStray config calls set i
 
 -- the number is at least 1 and at most 65,536: a script has no more records than bytes
 abbrev pub NumberRule : Type 0
-NumberRule = (s : List ℕ) (set i : ℕ) → stray_of s set ≡ At i → (1 ≤ i) × (i ≤ 65_536)
+NumberRule = (s : List ℕ) (set i : ℕ) → stray_of s set ≡ Ok (Some i) → (1 ≤ i) × (i ≤ 65_536)
 
 -- ---- refusals
 
@@ -77,14 +73,14 @@ NumberRule = (s : List ℕ) (set i : ℕ) → stray_of s set ≡ At i → (1 ≤
 -- 2 and 3; and 6 for a member above n, whatever the records are
 pub data RefusedFor (s : List ℕ) (set : ℕ) : Refusal → Type 0 where
   long : 65_536 < length s → RefusedFor s set (refusal 9)
-  unreadable : (why : Refusal) → length s ≤ 65_536 → (config_of s).next ≡ next.Refused why → (number_of why ≡ 2) ⊎ (number_of why ≡ 3) → RefusedFor s set why
-  unsound : (at : ℕ) → length s ≤ 65_536 → (config_of s).next ≡ place at
-      → (sound (config_of s).config ≡ false) ⊎ (Decides (config_of s).config → ⊥) → RefusedFor s set (refusal 1)
-  beyond : (at : ℕ) → length s ≤ 65_536 → (config_of s).next ≡ place at → sound (config_of s).config ≡ true → Decides (config_of s).config
-      → (k : ℕ) → Member k set → (config_of s).config.n < k → RefusedFor s set (refusal 6)
+  unreadable : (why : Refusal) → length s ≤ 65_536 → config_of s ≡ Err why → (number_of why ≡ 2) ⊎ (number_of why ≡ 3) → RefusedFor s set why
+  unsound : (config : Config) (at : ℕ) → length s ≤ 65_536 → config_of s ≡ Ok (config, place at)
+      → (sound config ≡ false) ⊎ (Decides config → ⊥) → RefusedFor s set (refusal 1)
+  beyond : (config : Config) (at : ℕ) → length s ≤ 65_536 → config_of s ≡ Ok (config, place at) → sound config ≡ true → Decides config
+      → (k : ℕ) → Member k set → config.n < k → RefusedFor s set (refusal 6)
 
 abbrev pub RefusalOrder : Type 0
-RefusalOrder = (s : List ℕ) (set : ℕ) (why : Refusal) → (stray_of s set ≡ Refused why) ↔ RefusedFor s set why
+RefusalOrder = (s : List ℕ) (set : ℕ) (why : Refusal) → (stray_of s set ≡ Err why) ↔ RefusedFor s set why
 
 -- ---- the proposal is the process's free choice
 
@@ -99,20 +95,20 @@ FreeChoice =
     → Typed call
     → call.process ≡ process
     → call.code ≡ 1
-    → call_fault call ≡ Absent
-    → MayCall config process c.watch.entered call c.watch.standing ↔ (verdict_on config (held (last config calls)) call ≡ Permit)
+    → call_fault call ≡ Ok tt
+    → MayCall config process c.watch.entered call c.watch.standing ↔ (verdict_on config (held (last config calls)) call ≡ Ok tt)
 
 -- ---- scripts that stop
 
 -- where all follow, they follow in every script that ends earlier behind the set-up, between two records or within one, which then can't be read
 abbrev pub Halfway : Type 0
 Halfway =
-    (s : List ℕ) (set at bytes : ℕ)
+    (s : List ℕ) (config : Config) (set at bytes : ℕ)
     → Bytes s
-    → (config_of s).next ≡ place at
+    → config_of s ≡ Ok (config, place at)
     → at ≤ bytes
-    → stray_of s set ≡ Nobody
-    → stray_of (take bytes s) set ≡ Nobody
+    → stray_of s set ≡ Ok None
+    → stray_of (take bytes s) set ≡ Ok None
 
 -- ---- refused calls
 
@@ -124,7 +120,7 @@ RefusedStrays =
     → turns config calls ≡ before ++ (turn ∷ behind)
     → Member turn.call.process set
     → turn.reply.outcome ≡ outcome.Refused why
-    → (j : ℕ) × (stray_of s set ≡ At j) × (j ≤ length before + 1)
+    → (j : ℕ) × (stray_of s set ≡ Ok (Some j)) × (j ≤ length before + 1)
 
 -- ---- what a yes gives
 
@@ -133,6 +129,6 @@ abbrev pub Certificate : Type 0
 Certificate =
     (s : List ℕ) (set : ℕ) (config : Config) (calls : List Call)
     → Judged s set config calls
-    → stray_of s set ≡ Nobody
+    → stray_of s set ≡ Ok None
     → config.n - config.t ≤ ones set
     → FewFaulty config calls

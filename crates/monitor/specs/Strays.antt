@@ -1,10 +1,8 @@
 -- Document 02, 2.11: the first record of a script in which one of a set of processes makes a call that the procedure would not make there. To follow is `Correct` of
 -- `runs`, and nothing else: the monitor of `runs` gives each process's first wrong turn, and the earliest of the members' is the answer.
-use Rattle.std.specs.Prelude.{ℕ, zero, suc, ◌+◌, ◌/◌, ◌%◌, cond, List, eqb, ltb}
-use Rattle.monitor.specs.declared.stray.Stray.{Stray}
-use Rattle.monitor.specs.declared.stray.Stray.TheVariants.{Nobody, At, Refused}
-use Rattle.record.specs.declared.reader.Next.{Next}
-use Rattle.record.specs.declared.reader.Next.TheVariants as next
+use Rattle.std.specs.Prelude.{ℕ, zero, suc, ◌+◌, ◌/◌, ◌%◌, cond, List, eqb, ltb, Err, None, Ok, Option, Result, Some}
+use Rattle.tuple.specs.declared.refusal.Refusal.{Refusal}
+use Rattle.record.specs.Reading.{Reading}
 use Rattle.runs.specs.Correct.{Finding, right, wrong, monitored}
 use Rattle.script.specs.Scripts.{script_head, records_at}
 use Rattle.space.specs.declared.config.Config.{Config}
@@ -32,24 +30,24 @@ earliest config calls (suc n) k set =
 
 -- ---- the answer
 
-abbrev pub stray_at : ℕ → Stray
-stray_at number = cond (eqb number 0) Nobody (At number)
+abbrev pub stray_at : ℕ → Result (Option ℕ) Refusal
+stray_at number = cond (eqb number 0) (Ok None) (Ok (Some number))
 
 -- the calls that the script reads as; an unreadable record is none of them
-abbrev pub stray_in : Config → List Call → ℕ → Stray
+abbrev pub stray_in : Config → List Call → ℕ → Result (Option ℕ) Refusal
 stray_in config calls set = stray_at (earliest config calls config.n 1 set)
 
 -- 1 for every policy but 2 and 3, then 6 for a member above n
-unfoldable pub stray_on : List ℕ → ℕ → Config → ℕ → Stray
+unfoldable pub stray_on : List ℕ → ℕ → Config → ℕ → Result (Option ℕ) Refusal
 stray_on s at config set =
     cond (has_proposals config)
-    (cond (within config.n set) (stray_in config (records_at s at).calls set) (Refused (refusal 6)))
-    (Refused (refusal 1))
+    (cond (within config.n set) (stray_in config (records_at s at).calls set) (Err (refusal 6)))
+    (Err (refusal 1))
 
 -- before that, what a script is refused before its space stands: 9, then 2 or 3, then 1
-abbrev pub stray_step : List ℕ → ℕ → Config → Next → Stray
-stray_step s set config (next.At cursor) = stray_on s cursor.at config set
-stray_step s set config (next.Refused why) = Refused why
+abbrev pub stray_step : List ℕ → ℕ → Reading Config → Result (Option ℕ) Refusal
+stray_step s set (Ok (config, cursor)) = stray_on s cursor.at config set
+stray_step s set (Err why) = Err why
 
-unfoldable pub stray_of : List ℕ → ℕ → Stray
-stray_of s set = stray_step s set (script_head s).config (script_head s).next
+unfoldable pub stray_of : List ℕ → ℕ → Result (Option ℕ) Refusal
+stray_of s set = stray_step s set (script_head s)

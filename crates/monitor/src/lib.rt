@@ -6,4 +6,4 @@ mod records;
 mod stray;
 mod tracked;
 
-pub use stray::{Stray, first_stray};
+pub use stray::first_stray;

@@ -8,13 +8,11 @@ use native.Mathlib.Omega.{arith}
 use lib.Dec.{eqb}
 use borrow.Author.Tests.{eqb-true, eq-eqb, ne_eqb}
 use borrow.Table.Steps.{cases}
-use Rattle.policy.specs.declared.verdicts.Verdict.TheVariants.{Permit}
+use Rattle.std.specs.Prelude.{None, Ok, Option, Some}
 use Rattle.policy.specs.Laws.{PreferredRule, AnnounceRule, TakeOffRule, ListCall, Helps, Alone, HelpRule, AnnouncingOnly}
 use Rattle.policy.specs.Listing.{preferred, waiting, owed, is_own, is_due_by, is_due, is_silent, may_announce, may_take_off, shared}
 use Rattle.policy.proofs.ListingLaws.{cas-permitted}
 use Rattle.policy.proofs.PolicyLaws.{demanded, under-shared}
-use Rattle.space.specs.declared.announcement.Announced.{Announced}
-use Rattle.space.specs.declared.announcement.Announced.TheVariants.{Shift, Silent}
 use Rattle.space.specs.declared.config.Config.{Config}
 use Rattle.space.specs.Announcements.{is_announcement, announcer_of, announced_of, Announcing}
 use Rattle.space.specs.Configs.{has_list}
@@ -44,7 +42,7 @@ lists-five config five = (has-list-rule config).1 (inr five)
 silent-rule : (tuples : List Tuple) (process : ℕ) → (is_silent (announced_of tuples process) ≡ true) ↔ (Announcing tuples process → ⊥)
 silent-rule tuples process =
     let rule = (announced-rules tuples process).silent in
-    let silent : (said : Announced) → is_silent said ≡ true → said ≡ Silent = λ said. elim said as (λ k. is_silent k ≡ true → k ≡ Silent) [ Shift serial code ↦ λ h. absurd (false≢true h) | Silent ↦ λ h. refl ] in
+    let silent : (said : (Option (ℕ × ℕ))) → is_silent said ≡ true → said ≡ None = λ said. elim said as (λ k. is_silent k ≡ true → k ≡ None) [ (Some (serial, code)) ↦ λ h. absurd (false≢true h) | None ↦ λ h. refl ] in
     (λ h. rule.0 (silent (announced_of tuples process) h), λ none. ap is_silent (rule.1 none))
 
 pub announce-rule : AnnounceRule
@@ -55,7 +53,7 @@ announce-rule config tuples call five e =
     rw (under-shared config tuples call (lists-five config five), ne_eqb call.code rdp (λ z. omega arith), ne_eqb call.code cas (λ z. omega arith), eq-eqb call.code out e) (
       λ h.
           let tests = four (eqb config.policy 5) (is_announcement entry) (eqb (announcer_of entry) call.process) (is_silent (announced_of tuples call.process))
-          (demanded (may_announce config tuples call) (refusal 7) Permit h).0 in
+          (demanded (may_announce config tuples call) (refusal 7) (Ok tt) h).0 in
           record { shape = tests.1; own = eqb-true _ _ tests.2; none = silent.0 tests.3 },
       λ own. rw (eq-eqb config.policy 5 five, own.shape, eq-eqb (announcer_of entry) call.process own.own, silent.1 own.none),
     )
@@ -74,7 +72,7 @@ take-off-rule config tuples call five e =
       ne_eqb call.code out (λ z. omega arith),
       eq-eqb call.code inp e,
     ) (
-      λ h. let own = (and-eq-true_iff _ (eqb (announcer_of template) call.process)).0 (demanded (may_take_off config call) (refusal 7) Permit h).0 in
+      λ h. let own = (and-eq-true_iff _ (eqb (announcer_of template) call.process)).0 (demanded (may_take_off config call) (refusal 7) (Ok tt) h).0 in
           let taken = shape.0 ((and-eq-true_iff (eqb config.policy 5) _).0 own.0).1 in
           record {
             four = taken.four;
@@ -98,19 +96,19 @@ module _ (config : Config) (tuples : List Tuple) (call : Call) (five : config.po
   process = preferred config.n (position_of entry)
 
   -- what is owed, by what is announced
-  due-by : (said : Announced) → announced_of tuples process ≡ said → is_due config tuples call ≡ is_due_by process call (waiting tuples process said)
+  due-by : (said : (Option (ℕ × ℕ))) → announced_of tuples process ≡ said → is_due config tuples call ≡ is_due_by process call (waiting tuples process said)
   unfolding is_due owed
   due-by said e = rw (e, five) refl
 
-  due-means : (said : Announced) → announced_of tuples process ≡ said → is_due config tuples call ≡ true → Helps config tuples call ⊎ Alone config tuples call
-  due-means Silent e due =
-      inr (record { own = eqb-true _ _ (sym (due-by Silent e) ∙ due); free = inl ((announced-rules tuples process).silent.0 e) })
-  due-means (Shift serial code) e due =
+  due-means : (said : (Option (ℕ × ℕ))) → announced_of tuples process ≡ said → is_due config tuples call ≡ true → Helps config tuples call ⊎ Alone config tuples call
+  due-means None e due =
+      inr (record { own = eqb-true _ _ (sym (due-by None e) ∙ due); free = inl ((announced-rules tuples process).silent.0 e) })
+  due-means (Some (serial, code)) e due =
       let oldest = ((announced-rules tuples process).shift serial code).0 e in
       cases (is_listed tuples process serial)
-      (λ l. let own : is_own call ≡ true = sym (due-by (Shift serial code) e ∙ rw l) ∙ due in
+      (λ l. let own : is_own call ≡ true = sym (due-by (Some (serial, code)) e ∙ rw l) ∙ due in
       inr (record { own = eqb-true _ _ own; free = inr (serial, code, oldest, (listed-rule tuples process serial).0 l) }))
-      (λ l. let owed : eqb (listed_process entry) process && eqb (serial_of entry) serial && eqb (shift_code entry) code ≡ true = sym (due-by (Shift serial code) e ∙ rw l) ∙ due in
+      (λ l. let owed : eqb (listed_process entry) process && eqb (serial_of entry) serial && eqb (shift_code entry) code ≡ true = sym (due-by (Some (serial, code)) e ∙ rw l) ∙ due in
       let last = (and-eq-true_iff (eqb (listed_process entry) process && eqb (serial_of entry) serial) _).0 owed in
       let same = (and-eq-true_iff (eqb (listed_process entry) process) _).0 last.0 in
       inl (record { by = eqb-true _ _ same.0; oldest = rw (eqb-true (serial_of entry) serial same.1, eqb-true (shift_code entry) code last.1) oldest }))
@@ -122,11 +120,11 @@ module _ (config : Config) (tuples : List Tuple) (call : Call) (five : config.po
       cases (is_listed tuples process (serial_of entry))
       (λ l. absurd (list.unlisted (rw helps.by ((listed-rule tuples process (serial_of entry)).0 l))))
       (λ l. l) in
-      due-by (Shift (serial_of entry) (shift_code entry)) e ∙ rw (unlisted, eq-eqb (listed_process entry) process helps.by, eq-eqb (serial_of entry) (serial_of entry) refl, eq-eqb (shift_code entry) (shift_code entry) refl) refl
+      due-by (Some (serial_of entry, shift_code entry)) e ∙ rw (unlisted, eq-eqb (listed_process entry) process helps.by, eq-eqb (serial_of entry) (serial_of entry) refl, eq-eqb (shift_code entry) (shift_code entry) refl) refl
   means-due (inr alone) =
       ⊎_elim
-      (λ none. due-by Silent ((announced-rules tuples process).silent.1 none) ∙ eq-eqb _ _ alone.own)
-      (λ stood. due-by (Shift stood.0 stood.1) (((announced-rules tuples process).shift stood.0 stood.1).1 stood.2)
+      (λ none. due-by None ((announced-rules tuples process).silent.1 none) ∙ eq-eqb _ _ alone.own)
+      (λ stood. due-by (Some (stood.0, stood.1)) (((announced-rules tuples process).shift stood.0 stood.1).1 stood.2)
       ∙ rw ((listed-rule tuples process stood.0).1 stood.3) (eq-eqb _ _ alone.own))
       alone.free
 

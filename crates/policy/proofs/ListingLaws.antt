@@ -9,7 +9,7 @@ use lib.ListN.{length}
 use lib.Dec.{leb, eqb}
 use borrow.Author.Tests.{leb-true, eqb-true, eqb-false, not-true, le-leb, eq-eqb, ne_eqb}
 use borrow.Table.Steps.{cases}
-use Rattle.policy.specs.declared.verdicts.Verdict.TheVariants.{Permit}
+use Rattle.std.specs.Prelude.{Ok}
 use Rattle.policy.specs.Laws.{ListTemplateRule, ListCall, ListRdpRule, ListRule, ListDenied}
 use Rattle.policy.specs.Listing.{is_list_template, positions, same_position, is_shift, is_list_call, is_new, begins, follows, owed, is_own, is_due, may_list, may_announce, may_take_off, shared}
 use Rattle.policy.specs.Policies.{verdict_on}
@@ -169,12 +169,12 @@ may-list-rule config tuples call =
 
 -- a cas under either policy
 pub cas-permitted : (config : Config) (tuples : List Tuple) (call : Call) → has_list config ≡ true → call.code ≡ cas
-    → (verdict_on config tuples call ≡ Permit) ↔ (ListCall tuples call × (is_due config tuples call ≡ true))
+    → (verdict_on config tuples call ≡ Ok tt) ↔ (ListCall tuples call × (is_due config tuples call ≡ true))
 unfolding shared
 cas-permitted config tuples call lists e =
     let rule = may-list-rule config tuples call in
     rw (under-shared config tuples call lists, ne_eqb call.code rdp (λ z. omega arith), eq-eqb call.code cas e) (
-      λ h. rule.0 (demanded (may_list config tuples call) (refusal 7) Permit h).0,
+      λ h. rule.0 (demanded (may_list config tuples call) (refusal 7) (Ok tt) h).0,
       λ p. rw (rule.1 p),
     )
 

@@ -9,8 +9,8 @@ use lib.Count.{ones}
 use lib.Dec.{leb, eqb}
 use borrow.Author.Tests.{ltb-true, leb-true, eqb-true, eqb-false, not-true, not-false, lt-ltb, le-leb, eq-eqb, ne_eqb}
 use borrow.Table.Steps.{cases}
-use Rattle.policy.specs.declared.verdicts.Verdict.{Verdict}
-use Rattle.policy.specs.declared.verdicts.Verdict.TheVariants.{Permit, Refuse}
+use Rattle.std.specs.Prelude.{Err, Ok}
+use Rattle.tuple.specs.Refusals.{Verdict}
 use Rattle.policy.specs.Justified.{is_own_proposal, is_free, out_verdict, is_decision_call, bears_offset, bears, cas_verdict, justified}
 use Rattle.policy.specs.Default.{bears_bottom}
 use Rattle.policy.specs.Laws.{Denial, VerdictRule, SecondProposal, SecondRule, Unborne, UnborneRule, OtherwiseRule, UnknownRule, BoundedRules, BareRule, WeakRule, OutRule, RdpRule, InpRule, DecisionCall, BearsOffset, BearsBottom, CasOffsetRule, JustifiedOnly, CasBottomRule, CasChoiceRule}
@@ -46,7 +46,7 @@ use Rattle.tuple.specs.Shapes.{has_shape}
 -- ---- demands
 
 -- what is permitted behind a demand passed its test
-pub demanded : (test : Bool) (why : Refusal) (next : Verdict) → demand test why next ≡ Permit → (test ≡ true) × (next ≡ Permit)
+pub demanded : (test : Bool) (why : Refusal) (next : Verdict) → demand test why next ≡ Ok tt → (test ≡ true) × (next ≡ Ok tt)
 demanded true why next h = (refl, h)
 demanded false why next h = let z : ◌≡◌ {A = ℕ} 0 1 = cc in absurd (omega arith)
 
@@ -102,7 +102,7 @@ weak-rule config tuples call one =
     rw (under-weak config tuples call one) (
       λ h.
           let tests = (and-eq-true_iff (eqb call.code cas && is_weak_template call.template && is_weak_entry call.entry && same_round call.template call.entry) _).0
-          (demanded (is_weak_call call) _ Permit h).0 in
+          (demanded (is_weak_call call) _ (Ok tt) h).0 in
           let some : not (eqb decided bottom) ≡ true = tests.1 in
           let shapes = four (eqb call.code cas) (is_weak_template call.template) (is_weak_entry call.entry) (same_round call.template call.entry) tests.0 in
           let on = round.0 shapes.3 in
@@ -165,7 +165,7 @@ out-rule config tuples call rests e =
     rw (under-justified config tuples call rests, e) (
       λ h.
           let own = demanded (is_own_proposal config call) _ _ h in
-          let free = (demanded (is_free (by_search config tuples) entry) _ Permit own.1).0 in
+          let free = (demanded (is_free (by_search config tuples) entry) _ (Ok tt) own.1).0 in
           let parts = own-parts config call own.0 in
           record { shape = parts.0; in-rounds = parts.1; own = parts.2; may = parts.3; free = rw parts.2 at (none.0 free) },
       λ own. rw (own.shape, lt-ltb _ _ own.in-rounds, eq-eqb _ _ own.own, own.may, none.1 (rw own.own own.free)),
@@ -198,18 +198,18 @@ module _ (config : Config) (tuples : List Tuple) (call : Call) where
 
   cas-rule : (Bears : Type 0) → has_proposals config ≡ true → call.code ≡ cas
       → (DecisionCall config call → (bears config (by_search config tuples) call.entry ≡ true) ↔ Bears)
-      → (verdict_on config tuples call ≡ Permit) ↔ (DecisionCall config call × Bears)
+      → (verdict_on config tuples call ≡ Ok tt) ↔ (DecisionCall config call × Bears)
   unfolding cas_verdict
   cas-rule Bears rests e borne = rw (under-cas rests e) (
     λ h.
         let tests = demanded (is_decision_call config call) _ _ h in
         let shaped = (decision-rule config call).0 tests.0 in
-        (shaped, (borne shaped).0 (demanded (bears config (by_search config tuples) call.entry) _ Permit tests.1).0),
+        (shaped, (borne shaped).0 (demanded (bears config (by_search config tuples) call.entry) _ (Ok tt) tests.1).0),
     λ h. rw ((decision-rule config call).1 h.0, (borne h.0).1 h.1),
   )
 
   -- a cas that is permitted has the shape of one, whatever is decided
-  pub decision-call : has_proposals config ≡ true → call.code ≡ cas → verdict_on config tuples call ≡ Permit → DecisionCall config call
+  pub decision-call : has_proposals config ≡ true → call.code ≡ cas → verdict_on config tuples call ≡ Ok tt → DecisionCall config call
   decision-call rests e permitted = ((cas-rule (bears config (by_search config tuples) call.entry ≡ true) rests e (λ shaped. (λ b. b, λ b. b))).0 permitted).0
 
 -- what a set bears, of a cas that has the shapes
@@ -269,10 +269,10 @@ cas-choice-rule config tuples call three e none =
 -- ---- why a call is not permitted
 
 data Cause (config : Config) (tuples : List Tuple) (call : Call) : Verdict → Type 0 where
-  permits : Cause config tuples call Permit
-  denies : Cause config tuples call (Refuse (refusal 7))
-  repeats : SecondProposal config tuples call → Cause config tuples call (Refuse (refusal 12))
-  lacks : Unborne config tuples call → Cause config tuples call (Refuse (refusal 13))
+  permits : Cause config tuples call (Ok tt)
+  denies : Cause config tuples call (Err (refusal 7))
+  repeats : SecondProposal config tuples call → Cause config tuples call (Err (refusal 12))
+  lacks : Unborne config tuples call → Cause config tuples call (Err (refusal 13))
 
 module _ (config : Config) (tuples : List Tuple) (call : Call) where
   taken-rule : is_free (by_search config tuples) call.entry ≡ false → Placed tuples (round_of call.entry) (process_of call.entry)
@@ -318,7 +318,7 @@ module _ (config : Config) (tuples : List Tuple) (call : Call) where
   shared-cause : Cause config tuples call (shared config tuples call)
   unfolding shared
   shared-cause =
-      let tested : (test : Bool) → Cause config tuples call (demand test (refusal 7) Permit) = λ test. cases test (λ e. rw e permits) (λ e. rw e denies) in
+      let tested : (test : Bool) → Cause config tuples call (demand test (refusal 7) (Ok tt)) = λ test. cases test (λ e. rw e permits) (λ e. rw e denies) in
       cases (eqb call.code rdp) (λ a. rw a permits)
       (λ a. cases (eqb call.code cas) (λ b. rw (a, b) (tested (may_list config tuples call)))
       (λ b. cases (eqb call.code out) (λ c. rw (a, b, c) (tested (may_announce config tuples call)))
@@ -343,7 +343,7 @@ module _ (config : Config) (tuples : List Tuple) (call : Call) where
 
 -- permitted, or refused by one of the three
 abbrev Ruled : Verdict → Type 0
-Ruled v = (v ≡ Permit) ⊎ ((why : Refusal) × Denial why × (v ≡ Refuse why))
+Ruled v = (v ≡ Ok tt) ⊎ ((why : Refusal) × Denial why × (v ≡ Err why))
 
 cause-ruled : {config : Config} {tuples : List Tuple} {call : Call} {v : Verdict} → Cause config tuples call v → Ruled v
 cause-ruled permits = inl refl
@@ -354,13 +354,13 @@ cause-ruled (lacks u) = inr (refusal 13, unborne, refl)
 pub verdict-rule : VerdictRule
 verdict-rule config tuples call = cause-ruled (cause config tuples call)
 
-cause-second : {config : Config} {tuples : List Tuple} {call : Call} {v : Verdict} → Cause config tuples call v → v ≡ Refuse (refusal 12) → SecondProposal config tuples call
+cause-second : {config : Config} {tuples : List Tuple} {call : Call} {v : Verdict} → Cause config tuples call v → v ≡ Err (refusal 12) → SecondProposal config tuples call
 cause-second permits h = let z : ◌≡◌ {A = ℕ} 0 1 = cc in absurd (omega arith)
 cause-second denies h = let z : ◌≡◌ {A = ℕ} 0 1 = cc in absurd (omega arith)
 cause-second (repeats s) h = s
 cause-second (lacks u) h = let z : ◌≡◌ {A = ℕ} 0 1 = cc in absurd (omega arith)
 
-cause-unborne : {config : Config} {tuples : List Tuple} {call : Call} {v : Verdict} → Cause config tuples call v → v ≡ Refuse (refusal 13) → Unborne config tuples call
+cause-unborne : {config : Config} {tuples : List Tuple} {call : Call} {v : Verdict} → Cause config tuples call v → v ≡ Err (refusal 13) → Unborne config tuples call
 cause-unborne permits h = let z : ◌≡◌ {A = ℕ} 0 1 = cc in absurd (omega arith)
 cause-unborne denies h = let z : ◌≡◌ {A = ℕ} 0 1 = cc in absurd (omega arith)
 cause-unborne (repeats s) h = let z : ◌≡◌ {A = ℕ} 0 1 = cc in absurd (omega arith)
@@ -388,8 +388,8 @@ unborne-rule config tuples call = (
       rw (under-cas config tuples call u.policy u.code, (decision-rule config call).1 u.shaped, none),
 )
 
-cause-denied : {config : Config} {tuples : List Tuple} {call : Call} {v : Verdict} → Cause config tuples call v → (v ≡ Permit → ⊥) → (SecondProposal config tuples call → ⊥)
-    → (Unborne config tuples call → ⊥) → v ≡ Refuse (refusal 7)
+cause-denied : {config : Config} {tuples : List Tuple} {call : Call} {v : Verdict} → Cause config tuples call v → (v ≡ Ok tt → ⊥) → (SecondProposal config tuples call → ⊥)
+    → (Unborne config tuples call → ⊥) → v ≡ Err (refusal 7)
 cause-denied permits forbidden first borne = absurd (forbidden refl)
 cause-denied denies forbidden first borne = refl
 cause-denied (repeats s) forbidden first borne = absurd (first s)

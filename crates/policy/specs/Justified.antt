@@ -1,9 +1,8 @@
 -- Document 01, "Policies", 2 (Fig. 5), and document 02, 2.1, 2.3 and 2.9: policies 2 and 3, on what is answered to the questions that they ask about the
 -- proposals of the space. They differ in what may be proposed and decided (`offered`, `decidable`).
-use Rattle.std.specs.Prelude.{ℕ, ◌+◌, Bool, cond, not, ◌&&◌, leb, eqb}
+use Rattle.std.specs.Prelude.{ℕ, ◌+◌, Bool, cond, not, ◌&&◌, leb, eqb, Err, Ok}
 use Rattle.std.specs.Int.Count.{ones}
-use Rattle.policy.specs.declared.verdicts.Verdict.{Verdict}
-use Rattle.policy.specs.declared.verdicts.Verdict.TheVariants.{Permit, Refuse}
+use Rattle.tuple.specs.Refusals.{Verdict}
 use Rattle.policy.specs.Default.{bears_bottom}
 use Rattle.policy.specs.Shapes.{same_round, is_decision_template, is_decision, decided_code, set_of}
 use Rattle.policy.specs.Verdicts.{demand}
@@ -32,7 +31,7 @@ is_free asked entry = not (asked.taken (round_of entry) (process_of entry))
 
 unfoldable pub out_verdict : Config → Asked → Call → Verdict
 out_verdict config asked call =
-    demand (is_own_proposal config call) (refusal 7) (demand (is_free asked call.entry) (refusal 12) Permit)
+    demand (is_own_proposal config call) (refusal 7) (demand (is_free asked call.entry) (refusal 12) (Ok tt))
 
 -- ---- cas
 
@@ -56,7 +55,7 @@ bears config asked entry =
 
 unfoldable pub cas_verdict : Config → Asked → Call → Verdict
 cas_verdict config asked call =
-    demand (is_decision_call config call) (refusal 7) (demand (bears config asked call.entry) (refusal 13) Permit)
+    demand (is_decision_call config call) (refusal 7) (demand (bears config asked call.entry) (refusal 13) (Ok tt))
 
 -- ---- by the call
 
@@ -64,5 +63,5 @@ cas_verdict config asked call =
 unfoldable pub justified : Config → Asked → Call → Verdict
 justified config asked call =
     cond (eqb call.code out) (out_verdict config asked call)
-    (cond (eqb call.code rdp) Permit
-    (cond (eqb call.code cas) (cas_verdict config asked call) (Refuse (refusal 7))))
+    (cond (eqb call.code rdp) (Ok tt)
+    (cond (eqb call.code cas) (cas_verdict config asked call) (Err (refusal 7))))

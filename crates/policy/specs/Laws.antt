@@ -1,7 +1,6 @@
 -- Each policy permits exactly what the words of documents 01 and 02 say: claims over the definitions.
-use Rattle.std.specs.Prelude.{◌≡◌, ◌↔◌, ◌⊎◌, true, false, List, ℕ, ◌+◌, ◌-◌, ◌%◌, ◌≤◌, ◌<◌}
+use Rattle.std.specs.Prelude.{◌≡◌, ◌↔◌, ◌⊎◌, true, false, List, ℕ, ◌+◌, ◌-◌, ◌%◌, ◌≤◌, ◌<◌, Err, Ok}
 use Rattle.std.specs.Int.Count.{ones}
-use Rattle.policy.specs.declared.verdicts.Verdict.TheVariants.{Permit, Refuse}
 use Rattle.policy.specs.Listing.{is_list_template, preferred}
 use Rattle.policy.specs.Policies.{verdict_on, table_verdict, list_verdict, verdict, asks_tuples, lent_verdict}
 use Rattle.policy.specs.Shapes.{is_weak_template, is_weak_entry, is_decision_template, is_decision, decided_code, set_of}
@@ -32,12 +31,12 @@ pub data Denial : Refusal → Type 0 where
 abbrev pub VerdictRule : Type 0
 VerdictRule =
     (config : Config) (tuples : List Tuple) (call : Call)
-    → (verdict_on config tuples call ≡ Permit) ⊎ ((why : Refusal) × Denial why × (verdict_on config tuples call ≡ Refuse why))
+    → (verdict_on config tuples call ≡ Ok tt) ⊎ ((why : Refusal) × Denial why × (verdict_on config tuples call ≡ Err why))
 
 -- out of bounds every call is refused 1: where the table is asked, of a configuration that is not sound, and where the list is, also of too many tuples
 pub record BoundedRule (space : Space) (call : Call) : Type 0 where
-  pub table : sound space.config ≡ false → table_verdict space.config space.table call ≡ Refuse (refusal 1)
-  pub list : bounded space ≡ false → list_verdict space call ≡ Refuse (refusal 1)
+  pub table : sound space.config ≡ false → table_verdict space.config space.table call ≡ Err (refusal 1)
+  pub list : bounded space ≡ false → list_verdict space call ≡ Err (refusal 1)
 
 abbrev pub BoundedRules : Type 0
 BoundedRules = (space : Space) (call : Call) → BoundedRule space call
@@ -65,12 +64,12 @@ VerdictFound =
 
 -- a number that is no policy's permits nothing
 abbrev pub UnknownRule : Type 0
-UnknownRule = (config : Config) (tuples : List Tuple) (call : Call) → 5 < config.policy → verdict_on config tuples call ≡ Refuse (refusal 7)
+UnknownRule = (config : Config) (tuples : List Tuple) (call : Call) → 5 < config.policy → verdict_on config tuples call ≡ Err (refusal 7)
 
 -- ---- policy 0: all calls
 
 abbrev pub BareRule : Type 0
-BareRule = (config : Config) (tuples : List Tuple) (call : Call) → config.policy ≡ 0 → verdict_on config tuples call ≡ Permit
+BareRule = (config : Config) (tuples : List Tuple) (call : Call) → config.policy ≡ 0 → verdict_on config tuples call ≡ Ok tt
 
 -- ---- policy 1: only cas, with the two shapes, on one round 0 to 7, and not of bottom
 
@@ -83,7 +82,7 @@ pub record WeakCall (call : Call) : Type 0 where
   pub some : decided_code call.entry ≡ 0 → ⊥
 
 abbrev pub WeakRule : Type 0
-WeakRule = (config : Config) (tuples : List Tuple) (call : Call) → config.policy ≡ 1 → (verdict_on config tuples call ≡ Permit) ↔ WeakCall call
+WeakRule = (config : Config) (tuples : List Tuple) (call : Call) → config.policy ≡ 1 → (verdict_on config tuples call ≡ Ok tt) ↔ WeakCall call
 
 -- ---- policies 2 and 3
 
@@ -100,11 +99,11 @@ OutRule =
     (config : Config) (tuples : List Tuple) (call : Call)
     → has_proposals config ≡ true
     → call.code ≡ 1
-    → (verdict_on config tuples call ≡ Permit) ↔ OwnProposal config tuples call
+    → (verdict_on config tuples call ≡ Ok tt) ↔ OwnProposal config tuples call
 
 -- rdp is always permitted
 abbrev pub RdpRule : Type 0
-RdpRule = (config : Config) (tuples : List Tuple) (call : Call) → has_proposals config ≡ true → call.code ≡ 2 → verdict_on config tuples call ≡ Permit
+RdpRule = (config : Config) (tuples : List Tuple) (call : Call) → has_proposals config ≡ true → call.code ≡ 2 → verdict_on config tuples call ≡ Ok tt
 
 -- inp never, nor under policies 1 and 4
 abbrev pub InpRule : Type 0
@@ -113,7 +112,7 @@ InpRule =
     → 1 ≤ config.policy
     → config.policy ≤ 4
     → call.code ≡ 3
-    → verdict_on config tuples call ≡ Refuse (refusal 7)
+    → verdict_on config tuples call ≡ Err (refusal 7)
 
 -- cas only with the two shapes, on one round 0 to 7, with all of the set in 1 to n, of what may be decided
 pub record DecisionCall (config : Config) (call : Call) : Type 0 where
@@ -135,14 +134,14 @@ CasOffsetRule =
     → has_proposals config ≡ true
     → call.code ≡ 4
     → (decided_code call.entry ≡ 0 → ⊥)
-    → (verdict_on config tuples call ≡ Permit) ↔ (DecisionCall config call × BearsOffset config tuples call.entry)
+    → (verdict_on config tuples call ≡ Ok tt) ↔ (DecisionCall config call × BearsOffset config tuples call.entry)
 
 -- only out, rdp and cas are ever permitted under policies 2 and 3
 abbrev pub JustifiedOnly : Type 0
 JustifiedOnly =
     (config : Config) (tuples : List Tuple) (call : Call)
     → has_proposals config ≡ true
-    → verdict_on config tuples call ≡ Permit
+    → verdict_on config tuples call ≡ Ok tt
     → (call.code ≡ 1) ⊎ ((call.code ≡ 2) ⊎ (call.code ≡ 4))
 
 -- ---- policy 2 alone
@@ -159,7 +158,7 @@ CasBottomRule =
     → config.policy ≡ 2
     → call.code ≡ 4
     → decided_code call.entry ≡ 0
-    → (verdict_on config tuples call ≡ Permit) ↔ (DecisionCall config call × BearsBottom config tuples call.entry)
+    → (verdict_on config tuples call ≡ Ok tt) ↔ (DecisionCall config call × BearsBottom config tuples call.entry)
 
 -- ---- policy 3 alone
 
@@ -170,7 +169,7 @@ CasChoiceRule =
     → config.policy ≡ 3
     → call.code ≡ 4
     → (decided_code call.entry ≡ 0) ⊎ (offered config (decided_code call.entry) ≡ false)
-    → verdict_on config tuples call ≡ Refuse (refusal 7)
+    → verdict_on config tuples call ≡ Err (refusal 7)
 
 -- ---- policies 4 and 5
 
@@ -200,15 +199,15 @@ pub record ListCall (tuples : List Tuple) (call : Call) : Type 0 where
 
 -- rdp is always permitted
 abbrev pub ListRdpRule : Type 0
-ListRdpRule = (config : Config) (tuples : List Tuple) (call : Call) → has_list config ≡ true → call.code ≡ 2 → verdict_on config tuples call ≡ Permit
+ListRdpRule = (config : Config) (tuples : List Tuple) (call : Call) → has_list config ≡ true → call.code ≡ 2 → verdict_on config tuples call ≡ Ok tt
 
 -- 7 covers all that is not
 abbrev pub ListDenied : Type 0
 ListDenied =
     (config : Config) (tuples : List Tuple) (call : Call)
     → has_list config ≡ true
-    → (verdict_on config tuples call ≡ Permit → ⊥)
-    → verdict_on config tuples call ≡ Refuse (refusal 7)
+    → (verdict_on config tuples call ≡ Ok tt → ⊥)
+    → verdict_on config tuples call ≡ Err (refusal 7)
 
 -- ---- policy 4 alone
 
@@ -217,7 +216,7 @@ abbrev pub ListRule : Type 0
 ListRule =
     (config : Config) (tuples : List Tuple) (call : Call)
     → config.policy ≡ 4
-    → (verdict_on config tuples call ≡ Permit)
+    → (verdict_on config tuples call ≡ Ok tt)
     ↔ ((call.code ≡ 2) ⊎ ((call.code ≡ 4) × ListCall tuples call × (listed_process call.entry ≡ call.process)))
 
 -- ---- policy 5 alone
@@ -241,7 +240,7 @@ AnnounceRule =
     (config : Config) (tuples : List Tuple) (call : Call)
     → config.policy ≡ 5
     → call.code ≡ 1
-    → (verdict_on config tuples call ≡ Permit) ↔ OwnAnnouncement tuples call
+    → (verdict_on config tuples call ≡ Ok tt) ↔ OwnAnnouncement tuples call
 
 -- inp only with a template of four fields: the word 4 and the caller's own number given, a count and an offset, each of state any or open (1 or 2)
 pub record TakesOff (call : Call) : Type 0 where
@@ -256,7 +255,7 @@ TakeOffRule =
     (config : Config) (tuples : List Tuple) (call : Call)
     → config.policy ≡ 5
     → call.code ≡ 3
-    → (verdict_on config tuples call ≡ Permit) ↔ TakesOff call
+    → (verdict_on config tuples call ≡ Ok tt) ↔ TakesOff call
 
 -- a cas may list the process, serial and shift of the preferred process's oldest announcement, whoever calls
 pub record Helps (config : Config) (tuples : List Tuple) (call : Call) : Type 0 where
@@ -276,14 +275,14 @@ HelpRule =
     (config : Config) (tuples : List Tuple) (call : Call)
     → config.policy ≡ 5
     → call.code ≡ 4
-    → (verdict_on config tuples call ≡ Permit) ↔ (ListCall tuples call × (Helps config tuples call ⊎ Alone config tuples call))
+    → (verdict_on config tuples call ≡ Ok tt) ↔ (ListCall tuples call × (Helps config tuples call ⊎ Alone config tuples call))
 
 -- and nothing else is permitted under policy 5
 abbrev pub AnnouncingOnly : Type 0
 AnnouncingOnly =
     (config : Config) (tuples : List Tuple) (call : Call)
     → config.policy ≡ 5
-    → verdict_on config tuples call ≡ Permit
+    → verdict_on config tuples call ≡ Ok tt
     → (call.code ≡ 2) ⊎ ((call.code ≡ 4) ⊎ ((call.code ≡ 1) ⊎ (call.code ≡ 3)))
 
 -- ---- why a call is not permitted
@@ -302,7 +301,7 @@ pub record SecondProposal (config : Config) (tuples : List Tuple) (call : Call) 
 abbrev pub SecondRule : Type 0
 SecondRule =
     (config : Config) (tuples : List Tuple) (call : Call)
-    → (verdict_on config tuples call ≡ Refuse (refusal 12)) ↔ SecondProposal config tuples call
+    → (verdict_on config tuples call ≡ Err (refusal 12)) ↔ SecondProposal config tuples call
 
 -- 13: a cas of policy 2 or 3, right in both shapes and round, with its set in 1 to n and of what may be decided, whose set doesn't bear its offset
 pub record Unborne (config : Config) (tuples : List Tuple) (call : Call) : Type 0 where
@@ -315,15 +314,15 @@ pub record Unborne (config : Config) (tuples : List Tuple) (call : Call) : Type 
 abbrev pub UnborneRule : Type 0
 UnborneRule =
     (config : Config) (tuples : List Tuple) (call : Call)
-    → (verdict_on config tuples call ≡ Refuse (refusal 13)) ↔ Unborne config tuples call
+    → (verdict_on config tuples call ≡ Err (refusal 13)) ↔ Unborne config tuples call
 
 -- 7: all else that is not permitted
 pub record Otherwise (config : Config) (tuples : List Tuple) (call : Call) : Type 0 where
-  pub forbidden : verdict_on config tuples call ≡ Permit → ⊥
+  pub forbidden : verdict_on config tuples call ≡ Ok tt → ⊥
   pub first : SecondProposal config tuples call → ⊥
   pub borne : Unborne config tuples call → ⊥
 
 abbrev pub OtherwiseRule : Type 0
 OtherwiseRule =
     (config : Config) (tuples : List Tuple) (call : Call)
-    → (verdict_on config tuples call ≡ Refuse (refusal 7)) ↔ Otherwise config tuples call
+    → (verdict_on config tuples call ≡ Err (refusal 7)) ↔ Otherwise config tuples call

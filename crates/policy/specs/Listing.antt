@@ -1,10 +1,7 @@
 -- Document 02, 2.6 and 2.7: policies 4 and 5, a list of shifts that all processes share, under 5 with announcements, on the tuples that the space holds.
-use Rattle.std.specs.Prelude.{ℕ, ◌-◌, ◌%◌, Bool, true, false, cond, not, ◌&&◌, ◌||◌, List, leb, eqb}
-use Rattle.policy.specs.declared.verdicts.Verdict.{Verdict}
-use Rattle.policy.specs.declared.verdicts.Verdict.TheVariants.{Permit, Refuse}
+use Rattle.std.specs.Prelude.{ℕ, ◌-◌, ◌%◌, Bool, true, false, cond, not, ◌&&◌, ◌||◌, List, leb, eqb, Err, None, Ok, Option, Some}
+use Rattle.tuple.specs.Refusals.{Verdict}
 use Rattle.policy.specs.Verdicts.{demand}
-use Rattle.space.specs.declared.announcement.Announced.{Announced}
-use Rattle.space.specs.declared.announcement.Announced.TheVariants.{Shift, Silent}
 use Rattle.space.specs.declared.config.Config.{Config}
 use Rattle.space.specs.Announcements.{is_announcement, announcer_of, announced_of}
 use Rattle.space.specs.Configs.{has_announcements}
@@ -64,23 +61,23 @@ unfoldable pub preferred : ℕ → ℕ → ℕ
 preferred n position = cond (eqb (position % n) 0) n (position % n)
 
 -- an announcement of a process waits while its serial is not listed
-abbrev pub waiting : List Tuple → ℕ → Announced → Announced
-waiting tuples process Silent = Silent
-waiting tuples process (Shift serial code) = cond (is_listed tuples process serial) Silent (Shift serial code)
+abbrev pub waiting : List Tuple → ℕ → Option (ℕ × ℕ) → Option (ℕ × ℕ)
+waiting tuples process None = None
+waiting tuples process (Some (serial, code)) = cond (is_listed tuples process serial) None (Some (serial, code))
 
 -- what is owed at a position: under policy 5 the oldest announcement of its preferred process, if that waits; under policy 4 nothing ever is
-unfoldable pub owed : Config → List Tuple → ℕ → Announced
+unfoldable pub owed : Config → List Tuple → ℕ → Option (ℕ × ℕ)
 owed config tuples position =
-    cond (has_announcements config) (waiting tuples (preferred config.n position) (announced_of tuples (preferred config.n position))) Silent
+    cond (has_announcements config) (waiting tuples (preferred config.n position) (announced_of tuples (preferred config.n position))) None
 
 -- the entry is of the caller's own number
 abbrev pub is_own : Call → Bool
 is_own call = eqb (listed_process call.entry) call.process
 
 -- what is owed, by any caller; or, where nothing is, an entry of the caller's own number
-abbrev pub is_due_by : ℕ → Call → Announced → Bool
-is_due_by process call Silent = is_own call
-is_due_by process call (Shift serial code) = eqb (listed_process call.entry) process && eqb (serial_of call.entry) serial && eqb (shift_code call.entry) code
+abbrev pub is_due_by : ℕ → Call → Option (ℕ × ℕ) → Bool
+is_due_by process call None = is_own call
+is_due_by process call (Some (serial, code)) = eqb (listed_process call.entry) process && eqb (serial_of call.entry) serial && eqb (shift_code call.entry) code
 
 unfoldable pub is_due : Config → List Tuple → Call → Bool
 is_due config tuples call = is_due_by (preferred config.n (position_of call.entry)) call (owed config tuples (position_of call.entry))
@@ -90,9 +87,9 @@ may_list config tuples call = is_list_call call && is_due config tuples call && 
 
 -- ---- out and inp, under policy 5
 
-abbrev pub is_silent : Announced → Bool
-is_silent (Shift serial code) = false
-is_silent Silent = true
+abbrev pub is_silent : Option (ℕ × ℕ) → Bool
+is_silent (Some (serial, code)) = false
+is_silent None = true
 
 -- an announcement of the caller's own number, while none of its own stands
 unfoldable pub may_announce : Config → List Tuple → Call → Bool
@@ -112,13 +109,13 @@ may_take_off config call =
 -- rdp is always permitted; out and inp only under policy 5
 unfoldable pub shared : Config → List Tuple → Call → Verdict
 shared config tuples call =
-    cond (eqb call.code rdp) Permit
-    (cond (eqb call.code cas) (demand (may_list config tuples call) (refusal 7) Permit)
-    (cond (eqb call.code out) (demand (may_announce config tuples call) (refusal 7) Permit)
-    (cond (eqb call.code inp) (demand (may_take_off config call) (refusal 7) Permit) (Refuse (refusal 7)))))
+    cond (eqb call.code rdp) (Ok tt)
+    (cond (eqb call.code cas) (demand (may_list config tuples call) (refusal 7) (Ok tt))
+    (cond (eqb call.code out) (demand (may_announce config tuples call) (refusal 7) (Ok tt))
+    (cond (eqb call.code inp) (demand (may_take_off config call) (refusal 7) (Ok tt)) (Err (refusal 7)))))
 
 -- the same of a call that looks at no tuple, as rdp and inp do
 unfoldable pub unlisted : Config → Call → Verdict
 unlisted config call =
-    cond (eqb call.code rdp) Permit
-    (cond (eqb call.code inp) (demand (may_take_off config call) (refusal 7) Permit) (Refuse (refusal 7)))
+    cond (eqb call.code rdp) (Ok tt)
+    (cond (eqb call.code inp) (demand (may_take_off config call) (refusal 7) (Ok tt)) (Err (refusal 7)))

@@ -1,7 +1,6 @@
 -- Document 01, "Policies", and document 02, 2.1, 2.6, 2.7 and 2.9: the verdict of a space's policy on a call, by the policy's number.
-use Rattle.std.specs.Prelude.{ℕ, Bool, cond, ◌&&◌, ◌||◌, List, eqb}
-use Rattle.policy.specs.declared.verdicts.Verdict.{Verdict}
-use Rattle.policy.specs.declared.verdicts.Verdict.TheVariants.{Permit, Refuse}
+use Rattle.std.specs.Prelude.{ℕ, Bool, cond, ◌&&◌, ◌||◌, List, eqb, Err, Ok}
+use Rattle.tuple.specs.Refusals.{Verdict}
 use Rattle.policy.specs.Justified.{justified}
 use Rattle.policy.specs.Listing.{shared, unlisted}
 use Rattle.policy.specs.Verdicts.{demand}
@@ -20,10 +19,10 @@ use Rattle.tuple.specs.Refusals.{refusal}
 -- on the tuples that the space holds: 0, bare, permits all; 1 is weak, 2 and 3 rest on proposals, 4 and 5 have the shared list; no other number permits anything
 unfoldable pub verdict_on : Config → List Tuple → Call → Verdict
 verdict_on config tuples call =
-    cond (eqb config.policy 0) Permit
+    cond (eqb config.policy 0) (Ok tt)
     (cond (eqb config.policy 1) (weak call)
     (cond (has_proposals config) (justified config (by_search config tuples) call)
-    (cond (has_list config) (shared config tuples call) (Refuse (refusal 7)))))
+    (cond (has_list config) (shared config tuples call) (Err (refusal 7)))))
 
 -- ---- without a search for proposals
 
@@ -31,14 +30,14 @@ verdict_on config tuples call =
 unfoldable pub table_verdict : Config → List ℕ → Call → Verdict
 table_verdict config table call =
     demand (sound config) (refusal 1)
-    (cond (eqb config.policy 0) Permit
+    (cond (eqb config.policy 0) (Ok tt)
     (cond (eqb config.policy 1) (weak call)
-    (cond (has_proposals config) (justified config (by_table config table) call) (Refuse (refusal 7)))))
+    (cond (has_proposals config) (justified config (by_table config table) call) (Err (refusal 7)))))
 
 -- policies 4 and 5 on the tuples that the space holds: 1 for a configuration or a count out of bounds
 unfoldable pub list_verdict : Space → Call → Verdict
 list_verdict space call =
-    demand (bounded space) (refusal 1) (cond (has_list space.config) (shared space.config (held space) call) (Refuse (refusal 7)))
+    demand (bounded space) (refusal 1) (cond (has_list space.config) (shared space.config (held space) call) (Err (refusal 7)))
 
 -- by the policy
 unfoldable pub verdict : Space → Call → Verdict

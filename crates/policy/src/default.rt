@@ -1,23 +1,15 @@
 // Policy 2, default: what bears bottom, which no other policy decides.
-ghost use Rattle.std.specs.Prelude.{◌≡◌, true};
+ghost use Rattle.std.specs.Prelude.{◌≡◌};
 ghost use Rattle.policy.specs.Default.{bears_bottom};
-ghost use Rattle.space.specs.Configs.{sound};
-ghost use Rattle.space.specs.Tables.{by_table};
 
-use space::{Config, PLACES, Sought, crowded_in, every_in};
+use space::{Config, Questions, Sought};
 
 // Whether a set bears bottom: n - t members that have all proposed, and no offset proposed by more than t of them.
-pub(crate) fn bears_bottom(config: Config, table: &[u64; PLACES], round: u64, set: u64) -> bool
-    requires { sound config ≡ true }
-    ensures { result ≡ bears_bottom config (by_table config table.now) round set }
+#[tactic(auto, unfolding(crate::specs::Default::bears_bottom))]
+pub(crate) fn bears_bottom<Q: Questions>(config: Config, asked: &Q, round: u64, set: u64) -> bool
+    ensures { result ≡ bears_bottom config (Q.asked asked.now) round set }
 {
-    let n = config.n;
-    let t = config.t;
-    if u64::count_ones(set) < (n - t) as u32 {
-        return false;
-    }
-    if !every_in(config, table, Sought::Some, round, set) {
-        return false;
-    }
-    !crowded_in(config, table, round, set)
+    u64::from(set.count_ones()) >= config.n.saturating_sub(config.t)
+        && asked.every_proposed(Sought::Some, round, set)
+        && !asked.is_crowded(round, set)
 }

@@ -1,51 +1,43 @@
 // Policies 2 and 3: a decision is justified by a set of processes and what they have proposed. What may be proposed, and what may be decided, is the configuration's.
-ghost use Rattle.std.specs.Prelude.{◌≡◌, true};
+ghost use Rattle.std.specs.Prelude.{◌≡◌};
 ghost use Rattle.policy.specs.Justified.{is_own_proposal, is_free, out_verdict, is_decision_call, bears_offset, bears as bears·, cas_verdict, justified as justified·};
-ghost use Rattle.space.specs.Configs.{sound};
-ghost use Rattle.space.specs.Tables.{by_table};
 
 use crate::default::bears_bottom;
 use crate::shape::{is_decision, is_decision_template, same_round};
-use crate::verdicts::Verdict;
-use space::{
-    Config, PLACES, ROUNDS, Sought, decidable, every_in, is_proposal, offered, taken_in, within,
-};
-use tuple::{BOTTOM, CAS, Call, OUT, RDP, Refusal, Tuple, all_five, all_four};
+use space::{Config, Questions, ROUNDS, Sought, decidable, is_proposal, offered, within};
+use tuple::{BOTTOM, CAS, Call, OUT, RDP, Refusal, Tuple, Verdict};
 
 // The verdict of policies 2 (Fig. 5) and 3.
-pub(crate) fn justified(config: Config, table: &[u64; PLACES], call: Call) -> Verdict
-    requires { sound config ≡ true }
-    ensures { result ≡ justified· config (by_table config table.now) call }
+#[tactic(auto, unfolding(crate::specs::Justified::justified))]
+pub(crate) fn justified<Q: Questions>(config: Config, asked: &Q, call: Call) -> Verdict
+    ensures { result ≡ justified· config (Q.asked asked.now) call }
 {
-    let code = call.code;
-    if code == OUT {
-        return out_verdict(config, table, call);
+    match call.code {
+        OUT => out_verdict(config, asked, call),
+        RDP => Ok(()),
+        CAS => cas_verdict(config, asked, call),
+        _ => Err(Refusal::Denied),
     }
-    if code == RDP {
-        return Verdict::Permit;
-    }
-    if code == CAS {
-        return cas_verdict(config, table, call);
-    }
-    Verdict::Refuse(Refusal::Denied)
 }
 
 // ---- out
 
-fn out_verdict(config: Config, table: &[u64; PLACES], call: Call) -> Verdict
-    ensures { result ≡ out_verdict config (by_table config table.now) call }
+#[tactic(auto, unfolding(crate::specs::Justified::out_verdict))]
+fn out_verdict<Q: Questions>(config: Config, asked: &Q, call: Call) -> Verdict
+    ensures { result ≡ out_verdict config (Q.asked asked.now) call }
 {
     let entry = call.entry;
     if !is_own_proposal(config, call) {
-        return Verdict::Refuse(Refusal::Denied);
+        return Err(Refusal::Denied);
     }
-    if !is_free(config, table, entry) {
-        return Verdict::Refuse(Refusal::SecondProposal);
+    if !is_free(asked, entry) {
+        return Err(Refusal::SecondProposal);
     }
-    Verdict::Permit
+    Ok(())
 }
 
 // Whether an out is of the caller's own proposal, in a round, of an offset that may be proposed.
+#[tactic(auto, unfolding(crate::specs::Justified::is_own_proposal))]
 fn is_own_proposal(config: Config, call: Call) -> bool
     ensures { result ≡ is_own_proposal config call }
 {
@@ -53,41 +45,41 @@ fn is_own_proposal(config: Config, call: Call) -> bool
     let second = entry.fields[1];
     let third = entry.fields[2];
     let fourth = entry.fields[3];
-    let process = call.process as u64;
-    all_four(
-        is_proposal(entry),
-        second.value < ROUNDS,
-        third.value == process,
-        offered(config, fourth.value),
-    )
+    let process = u64::from(call.process);
+    is_proposal(entry)
+        && second.value < ROUNDS
+        && third.value == process
+        && offered(config, fourth.value)
 }
 
 // Whether no proposal of that round and process stands in the space, of an offset or bottom.
-fn is_free(config: Config, table: &[u64; PLACES], entry: Tuple) -> bool
-    ensures { result ≡ is_free (by_table config table.now) entry }
+#[tactic(auto, unfolding(crate::specs::Justified::is_free))]
+fn is_free<Q: Questions>(asked: &Q, entry: Tuple) -> bool
+    ensures { result ≡ is_free (Q.asked asked.now) entry }
 {
     let second = entry.fields[1];
     let third = entry.fields[2];
-    !taken_in(config, table, second.value, third.value)
+    !asked.is_taken(second.value, third.value)
 }
 
 // ---- cas
 
-fn cas_verdict(config: Config, table: &[u64; PLACES], call: Call) -> Verdict
-    requires { sound config ≡ true }
-    ensures { result ≡ cas_verdict config (by_table config table.now) call }
+#[tactic(auto, unfolding(crate::specs::Justified::cas_verdict))]
+fn cas_verdict<Q: Questions>(config: Config, asked: &Q, call: Call) -> Verdict
+    ensures { result ≡ cas_verdict config (Q.asked asked.now) call }
 {
     let entry = call.entry;
     if !is_decision_call(config, call) {
-        return Verdict::Refuse(Refusal::Denied);
+        return Err(Refusal::Denied);
     }
-    if !bears(config, table, entry) {
-        return Verdict::Refuse(Refusal::Unborne);
+    if !bears(config, asked, entry) {
+        return Err(Refusal::Unborne);
     }
-    Verdict::Permit
+    Ok(())
 }
 
 // Whether a cas has the two shapes on one round, of what may be decided, with all of its set in 1 to n.
+#[tactic(auto, unfolding(crate::specs::Justified::is_decision_call))]
 fn is_decision_call(config: Config, call: Call) -> bool
     ensures { result ≡ is_decision_call config call }
 {
@@ -95,38 +87,32 @@ fn is_decision_call(config: Config, call: Call) -> bool
     let entry = call.entry;
     let third = entry.fields[2];
     let fourth = entry.fields[3];
-    all_five(
-        is_decision_template(template),
-        is_decision(entry),
-        same_round(template, entry),
-        within(config.n, fourth.value),
-        decidable(config, third.value),
-    )
+    is_decision_template(template)
+        && is_decision(entry)
+        && same_round(template, entry)
+        && within(config.n, fourth.value)
+        && decidable(config, third.value)
 }
 
 // Whether the set of a decision bears its offset, or bottom.
-fn bears(config: Config, table: &[u64; PLACES], entry: Tuple) -> bool
-    requires { sound config ≡ true }
-    ensures { result ≡ bears· config (by_table config table.now) entry }
+#[tactic(auto, unfolding(crate::specs::Justified::bears))]
+fn bears<Q: Questions>(config: Config, asked: &Q, entry: Tuple) -> bool
+    ensures { result ≡ bears· config (Q.asked asked.now) entry }
 {
     let second = entry.fields[1];
     let third = entry.fields[2];
     let fourth = entry.fields[3];
     if third.value == BOTTOM {
-        bears_bottom(config, table, second.value, fourth.value)
+        bears_bottom(config, asked, second.value, fourth.value)
     } else {
-        bears_offset(config, table, second.value, fourth.value, third.value)
+        bears_offset(config, asked, second.value, fourth.value, third.value)
     }
 }
 
 // Whether a set bears an offset: t + 1 members that have all proposed it.
-fn bears_offset(config: Config, table: &[u64; PLACES], round: u64, set: u64, code: u64) -> bool
-    requires { sound config ≡ true }
-    ensures { result ≡ bears_offset config (by_table config table.now) round set code }
+#[tactic(auto, unfolding(crate::specs::Justified::bears_offset))]
+fn bears_offset<Q: Questions>(config: Config, asked: &Q, round: u64, set: u64, code: u64) -> bool
+    ensures { result ≡ bears_offset config (Q.asked asked.now) round set code }
 {
-    let t = config.t;
-    if u64::count_ones(set) < (t + 1) as u32 {
-        return false;
-    }
-    every_in(config, table, Sought::One(code), round, set)
+    config.t < u64::from(set.count_ones()) && asked.every_proposed(Sought::One(code), round, set)
 }

@@ -11,4 +11,3 @@ mod weak;
 
 pub use policy::{asks_tuples, lent_verdict, list_verdict, table_verdict};
 pub use shape::is_decision;
-pub use verdicts::Verdict;

@@ -40,9 +40,5 @@ pub(crate) fn same_round(template: Tuple, entry: Tuple) -> bool
     let asked = template.fields[1];
     let given = entry.fields[1];
     let round = given.value;
-    if asked.value == round {
-        round < ROUNDS
-    } else {
-        false
-    }
+    asked.value == round && round < ROUNDS
 }

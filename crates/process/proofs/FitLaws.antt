@@ -17,7 +17,7 @@ use Rattle.space.specs.Members.{within}
 use Rattle.space.specs.Proposals.{offered, decidable}
 use Rattle.space.specs.Shapes.{is_proposal, round_of, process_of, proposed_code}
 use Rattle.space.proofs.MemberLaws.{within-rule}
-use Rattle.tuple.specs.declared.fault.Fault.TheVariants.{Absent}
+use Rattle.std.specs.Prelude.{Ok}
 use Rattle.tuple.specs.declared.field.Tuple.{Tuple}
 use Rattle.tuple.specs.declared.reply.Outcome.{Outcome}
 use Rattle.tuple.specs.declared.reply.Outcome.TheVariants as outcome
@@ -81,7 +81,7 @@ value-decidable config round own tuple (outcome.Refused why) may fit = may
 
 -- ---- tuples that fit
 
-given-sound : (kind value : ℕ) → known_head (given kind value) ≡ true → value ≤ largest_of kind → field_fault true (given kind value) ≡ Absent
+given-sound : (kind value : ℕ) → known_head (given kind value) ≡ true → value ≤ largest_of kind → field_fault true (given kind value) ≡ Ok tt
 unfolding field_fault
 given-sound kind value head small = rw (head, le-leb value (largest_of kind) small)
 

@@ -7,10 +7,11 @@ use Prim.Native.Nat.{ℕ, suc, ◌-◌, ◌≤◌, ◌<◌}
 use native.Mathlib.Omega.{arith}
 use lib.ListN.{length, set, length-set}
 use borrow.Table.Steps.{cases}
-use Rattle.process.specs.declared.process.Next.TheVariants.{Calls}
+use Rattle.std.specs.Prelude.{Ok}
 use Rattle.process.specs.declared.process.Phase.{Phase}
 use Rattle.process.specs.declared.process.Phase.TheVariants.{Proposing, Reading, Deciding, Decided}
 use Rattle.process.specs.declared.process.Process.{Process}
+use Rattle.process.specs.declared.process.Step.{Step}
 use Rattle.process.specs.Fits.{fits_rdp, fits_cas, fits_in, fits}
 use Rattle.process.specs.Laws.{FormedRule}
 use Rattle.process.specs.Procedure.{proposable, begun, started, turned, noted, read_on, value_of, decides, advanced, resumed}
@@ -113,39 +114,48 @@ module _ (p : Process) (same : Same p.config p.process p.round) where
     advanced-kept reply (Decided code) sound fit = absurd (false≢true fit)
 
 -- a fitting reply advances a well-formed state
-pub resumed-advanced : (p : Process) (reply : Reply) → well_formed p ≡ true → fits p reply ≡ true → resumed p reply ≡ advanced p reply p.phase
+pub resumed-advanced : (p : Process) (reply : Reply) → well_formed p ≡ true → fits p reply ≡ true → resumed p reply ≡ Ok (advanced p reply p.phase)
 unfolding resumed
 resumed-advanced p reply formed fit = rw (formed, fit, or-true)
 
-pub resumed-formed : (p : Process) (reply : Reply) → length p.found ≡ processes → well_formed p ≡ true → fits p reply ≡ true
-    → (well_formed (resumed p reply).process ≡ true) × (length (resumed p reply).process.found ≡ processes)
+pub advanced-formed : (p : Process) (reply : Reply) → length p.found ≡ processes → well_formed p ≡ true → fits p reply ≡ true
+    → Kept (advanced p reply p.phase).process
 unfolding fits
-resumed-formed p reply typed formed fit =
-    let parts = (formed-parts p).0 formed in
-    rw (resumed-advanced p reply formed fit) (advanced-kept p parts.0 typed reply p.phase parts.1 fit)
+advanced-formed p reply typed formed fit = let parts = (formed-parts p).0 formed in advanced-kept p parts.0 typed reply p.phase parts.1 fit
 
 -- ---- the first state is well formed
 
 pub started-begun : (config : Config) (process round : ℕ) (offset : Offset) → Same config process round → proposable config offset ≡ true
-    → started config process round offset ≡ begun config process round offset
+    → started config process round offset ≡ Ok (begun config process round offset)
 unfolding started
 started-begun config process round offset same some = rw (same.start, same.member, same.in-rounds, some)
 
-pub started-formed : (config : Config) (process round : ℕ) (offset : Offset) → (started config process round offset).next ≡ Calls
-    → (well_formed (started config process round offset).process ≡ true) × (length (started config process round offset).process.found ≡ processes)
+-- and what one that is not refused asked for, and gives
+pub started-parts : (config : Config) (process round : ℕ) (offset : Offset) (step : Step) → started config process round offset ≡ Ok step
+    → Same config process round × (proposable config offset ≡ true) × (step ≡ begun config process round offset)
 unfolding started
-started-formed config process round offset =
+started-parts config process round offset step h =
     cases (startable config)
     (λ start. cases (known config process)
     (λ member. cases (in_rounds round && proposable config offset)
-    (λ both. rw (start, member, both) (λ calls. (
-      (formed-parts (begun config process round offset).process).1
-          (record { start = start; member = member; in-rounds = ((and-eq-true_iff (in_rounds round) _).0 both).0 }, none-sound config),
-      refl,
-    )))
-    (λ e. rw (start, member, e) (λ calls. let z : ◌≡◌ {A = ℕ} 0 1 = cc in absurd (omega arith))))
-    (λ e. rw (start, e) (λ calls. let z : ◌≡◌ {A = ℕ} 0 1 = cc in absurd (omega arith))))
-    (λ e. rw e (λ calls. let z : ◌≡◌ {A = ℕ} 0 1 = cc in absurd (omega arith)))
+    (λ both.
+    let parts = (and-eq-true_iff (in_rounds round) _).0 both in
+    let gives = rw (start, member, both) at h in
+    let same : step ≡ begun config process round offset = cc in
+    (record { start = start; member = member; in-rounds = parts.0 }, parts.1, same))
+    (λ e. let refused = rw (start, member, e) at h in let z : ◌≡◌ {A = ℕ} 0 1 = cc in absurd (omega arith)))
+    (λ e. let refused = rw (start, e) at h in let z : ◌≡◌ {A = ℕ} 0 1 = cc in absurd (omega arith)))
+    (λ e. let refused = rw e at h in let z : ◌≡◌ {A = ℕ} 0 1 = cc in absurd (omega arith))
+
+pub started-formed : (config : Config) (process round : ℕ) (offset : Offset) (step : Step) → started config process round offset ≡ Ok step → Kept step.process
+started-formed config process round offset step h =
+    let parts = started-parts config process round offset step h in
+    rw parts.2 ((formed-parts (begun config process round offset).process).1 (parts.0, none-sound config), refl)
 
 pub formed-rule : FormedRule
-formed-rule = record { starts = started-formed; resumes = resumed-formed }
+formed-rule =
+    record {
+      starts = started-formed;
+      resumes = λ p reply typed formed fit.
+          let kept = advanced-formed p reply typed formed fit in (advanced p reply p.phase, resumed-advanced p reply formed fit, kept.0, kept.1);
+    }

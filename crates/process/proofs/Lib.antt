@@ -4,11 +4,11 @@ pub mod FitLaws
 pub mod FitRules
 mod FitSteps
 pub mod KeptLaws
-mod Lengths
 pub mod NextLaws
 mod OffsetSteps
 pub mod OrderLaws
 pub mod ReachLaws
+mod SettledSteps
 pub mod StateLaws
 mod StateSteps
 pub mod TallyLaws

@@ -8,15 +8,14 @@ use lib.Dec.{eqb}
 use lib.IntN.{ℤ, nat_abs}
 use borrow.Author.Tests.{lt-ltb, le-leb, ltb-true, leb-true, eqb-true, eqb-false}
 use borrow.Table.Steps.{cases}
-use Rattle.process.specs.declared.process.Next.TheVariants.{Calls, Refuses}
+use Rattle.std.specs.Prelude.{Err, Ok}
 use Rattle.process.specs.declared.process.Phase.{Phase}
 use Rattle.process.specs.declared.process.Phase.TheVariants.{Proposing, Reading, Deciding, Decided}
 use Rattle.process.specs.declared.process.Process.{Process}
 use Rattle.process.specs.Fits.{fits}
 use Rattle.process.specs.Laws.{MayStart, MayPropose, StartOrder, StartOrders, HandOrder, HandOrders}
-use Rattle.process.specs.Procedure.{proposable, started, is_decided, resumed}
+use Rattle.process.specs.Procedure.{proposable, begun, started, is_decided, advanced, resumed}
 use Rattle.process.specs.States.{startable, well_formed}
-use Rattle.process.proofs.AnswerLaws.{advances}
 use Rattle.process.proofs.StateLaws.{startable-rule, known-rule}
 use Rattle.space.specs.declared.config.Config.{Config}
 use Rattle.space.specs.Configs.{known}
@@ -27,7 +26,6 @@ use Rattle.space.proofs.ProposalLaws.{offered-rule, choice-rule}
 use Rattle.tuple.specs.declared.offset.Offset.{Offset}
 use Rattle.tuple.specs.declared.offset.Offset.TheVariants.{Bottom, Hundredths}
 use Rattle.tuple.specs.declared.reply.Reply.{Reply}
-use Rattle.tuple.specs.declared.refusal.Refusal.{Refusal}
 use Rattle.tuple.specs.Offsets.{in_range, code_of}
 use Rattle.tuple.specs.Refusals.{refusal}
 
@@ -81,12 +79,11 @@ module _ (config : Config) (process round : ℕ) (offset : Offset) where
   unfolding started
   start-unsound s =
       let never = no_test (startable config) (may-start config) s in
-      let is : (started config process round offset).next ≡ Refuses (refusal 1) = rw s refl in
+      let is : started config process round offset ≡ Err (refusal 1) = rw s refl in
       record {
         unsound = (λ h. never, λ n. is);
         stranger = (λ h. let z : ◌≡◌ {A = ℕ} 0 1 = cc in absurd (omega arith), λ n. absurd (never n.0));
         beyond = (λ h. let z : ◌≡◌ {A = ℕ} 0 1 = cc in absurd (omega arith), λ n. absurd (never n.0));
-        blank = λ why refuses. rw s (refl, refl);
         begins = λ start. absurd (never start);
       }
 
@@ -95,12 +92,11 @@ module _ (config : Config) (process round : ℕ) (offset : Offset) where
   start-stranger s k =
       let start = (may-start config).0 s in
       let never = no_test (known config process) (known-rule config process) k in
-      let is : (started config process round offset).next ≡ Refuses (refusal 6) = rw (s, k) refl in
+      let is : started config process round offset ≡ Err (refusal 6) = rw (s, k) refl in
       record {
         unsound = (λ h. let z : ◌≡◌ {A = ℕ} 0 1 = cc in absurd (omega arith), λ n. absurd (n start));
         stranger = (λ h. (start, never), λ n. is);
         beyond = (λ h. let z : ◌≡◌ {A = ℕ} 0 1 = cc in absurd (omega arith), λ n. absurd (never n.1));
-        blank = λ why refuses. rw (s, k) (refl, refl);
         begins = λ m member. absurd (never member);
       }
 
@@ -110,12 +106,11 @@ module _ (config : Config) (process round : ℕ) (offset : Offset) where
       let start = (may-start config).0 s in
       let member = (known-rule config process).0 k in
       let never = no_test (in_rounds round && proposable config offset) (may-propose config round offset start) p in
-      let is : (started config process round offset).next ≡ Refuses (refusal 3) = rw (s, k, p) refl in
+      let is : started config process round offset ≡ Err (refusal 3) = rw (s, k, p) refl in
       record {
         unsound = (λ h. let z : ◌≡◌ {A = ℕ} 0 1 = cc in absurd (omega arith), λ n. absurd (n start));
         stranger = (λ h. let z : ◌≡◌ {A = ℕ} 0 1 = cc in absurd (omega arith), λ n. absurd (n.1 member));
         beyond = (λ h. (start, member, never), λ n. is);
-        blank = λ why refuses. rw (s, k, p) (refl, refl);
         begins = λ m q may. absurd (never may);
       }
 
@@ -125,12 +120,11 @@ module _ (config : Config) (process round : ℕ) (offset : Offset) where
       let start = (may-start config).0 s in
       let member = (known-rule config process).0 k in
       let may = (may-propose config round offset start).0 p in
-      let is : (started config process round offset).next ≡ Calls = rw (s, k, p) refl in
+      let is : started config process round offset ≡ Ok (begun config process round offset) = rw (s, k, p) refl in
       record {
         unsound = (λ h. let z : ◌≡◌ {A = ℕ} 0 1 = cc in absurd (omega arith), λ n. absurd (n start));
         stranger = (λ h. let z : ◌≡◌ {A = ℕ} 0 1 = cc in absurd (omega arith), λ n. absurd (n.1 member));
         beyond = (λ h. let z : ◌≡◌ {A = ℕ} 0 1 = cc in absurd (omega arith), λ n. absurd (n.2 may));
-        blank = λ why refuses. let z : ◌≡◌ {A = ℕ} 0 1 = cc in absurd (omega arith);
         begins = λ a b c. rw (s, k, p) refl;
       }
 
@@ -158,13 +152,13 @@ module _ (process : Process) (reply : Reply) where
   hand-unformed : well_formed process ≡ false → HandOrder process reply
   unfolding resumed
   hand-unformed f =
-      let is : (resumed process reply).next ≡ Refuses (refusal 1) = rw f refl in
+      let is : resumed process reply ≡ Err (refusal 1) = rw f refl in
       record { unformed = (λ h. f, λ n. is); unfit = (λ h. let z : ◌≡◌ {A = ℕ} 0 1 = cc in absurd (omega arith), λ n. absurd (false≢true (sym f ∙ n.0))) }
 
   hand-unfit : well_formed process ≡ true → is_decided process.phase || fits process reply ≡ false → HandOrder process reply
   unfolding resumed
   hand-unfit f n =
-      let is : (resumed process reply).next ≡ Refuses (refusal 11) = rw (f, n) refl in
+      let is : resumed process reply ≡ Err (refusal 11) = rw (f, n) refl in
       let parts = or_no (is_decided process.phase) (fits process reply) n in
       record {
         unformed = (λ h. let z : ◌≡◌ {A = ℕ} 0 1 = cc in absurd (omega arith), λ g. absurd (false≢true (sym g ∙ f)));
@@ -174,10 +168,13 @@ module _ (process : Process) (reply : Reply) where
   hand-fit : well_formed process ≡ true → is_decided process.phase || fits process reply ≡ true → HandOrder process reply
   unfolding resumed
   hand-fit f n =
-      let goes : (why : Refusal) → (resumed process reply).next ≡ Refuses why → ⊥ = λ why. rw (f, n) (advances process reply process.phase why) in
+      let is : resumed process reply ≡ Ok (advanced process reply process.phase) = rw (f, n) refl in
       record {
-        unformed = (λ h. absurd (goes (refusal 1) h), λ g. absurd (false≢true (sym g ∙ f)));
-        unfit = (λ h. absurd (goes (refusal 11) h), λ g. let none : false ≡ true = sym (rw ((undecided process.phase).1 g.1) g.2) ∙ n in absurd (false≢true none));
+        unformed = (λ h. let z : ◌≡◌ {A = ℕ} 0 1 = cc in absurd (omega arith), λ g. absurd (false≢true (sym g ∙ f)));
+        unfit = (
+          λ h. let z : ◌≡◌ {A = ℕ} 0 1 = cc in absurd (omega arith),
+          λ g. let none : false ≡ true = sym (rw ((undecided process.phase).1 g.1) g.2) ∙ n in absurd (false≢true none),
+        );
       }
 
 pub hand-order : HandOrders

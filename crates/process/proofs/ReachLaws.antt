@@ -21,7 +21,7 @@ use Rattle.process.specs.Reachable.{Reachable, starts, resumes}
 use Rattle.process.specs.States.{none_found, found_sound, phase_sound}
 use Rattle.process.specs.Tallies.{found_of, backs, backing, settled, next_after}
 use Rattle.process.proofs.FitLaws.{proposal-answers, decision-held, within_none}
-use Rattle.process.proofs.KeptLaws.{Kept, resumed-advanced, resumed-formed, started-begun, started-formed}
+use Rattle.process.proofs.KeptLaws.{Kept, advanced-formed, started-begun, started-formed}
 use Rattle.process.proofs.NextLaws.{next-rules}
 use Rattle.process.proofs.StateLaws.{Startable, Same, Codes, Reads, Decides, startable-parts, formed-parts, none-at, none-found, code-noted, codes-set, put_back, reading-rule, deciding-rule, unsettled-few}
 use Rattle.process.proofs.TallyLaws.{Part, settled-part}
@@ -40,9 +40,8 @@ use Rattle.tuple.specs.Offsets.{bottom}
 -- ---- what is reached is well formed, and goes on
 
 reached-kept : {p : Process} → Reachable p → Kept p
-reached-kept (starts config process round offset calls) = started-formed config process round offset calls
-reached-kept (resumes process reply before fit) =
-    let k = reached-kept before in rw (resumed-advanced process reply k.0 fit) at (resumed-formed process reply k.1 k.0 fit)
+reached-kept (starts config process round offset step begins) = started-formed config process round offset step begins
+reached-kept (resumes process reply before fit) = let k = reached-kept before in advanced-formed process reply k.1 k.0 fit
 
 -- ---- one place of what is found
 
@@ -172,8 +171,8 @@ module _ (config : Config) (process round : ℕ) where
   module _ (same : Same config process round) where
     reach-proposing : Reachable (state Proposing none_found)
     reach-proposing =
-        let begins = started-begun config process round (Hundredths (pos 0)) same (zero-offered config (startable-parts config same.start).safe) in
-        rw begins at (starts config process round (Hundredths (pos 0)) (rw begins))
+        let may = zero-offered config (startable-parts config same.start).safe in
+        starts config process round (Hundredths (pos 0)) _ (started-begun config process round (Hundredths (pos 0)) same may)
 
     reach-first : Reachable (state (Reading 1) none_found)
     unfolding fits rest_blank rest_from place_blank is_blank
@@ -262,8 +261,8 @@ fits_more state (first ∷ rest) reply each fit = (each.0, fits_more (stepped st
 
 led-to : {state : Process} → Reachable state → LedTo state
 unfolding led
-led-to (starts config process round offset calls) =
-    record { config = config; process = process; round = round; offset = offset; starts = calls; replies = []; fit = tt; ends = refl }
+led-to (starts config process round offset first begins) =
+    record { config = config; process = process; round = round; offset = offset; first = first; starts = begins; replies = []; fit = tt; ends = refl }
 led-to (resumes state reply before fit) =
     let to = led-to before in
     record {
@@ -271,6 +270,7 @@ led-to (resumes state reply before fit) =
       process = to.process;
       round = to.round;
       offset = to.offset;
+      first = to.first;
       starts = to.starts;
       replies = to.replies ++ (reply ∷ []);
       fit = fits_more _ to.replies reply to.fit (rw to.ends fit);
@@ -285,5 +285,5 @@ reached-by state (reply ∷ rest) r each = reached-by (stepped state reply) rest
 pub reached-rule : ReachedRule
 reached-rule state = (
   led-to,
-  λ to. rw to.ends at (reached-by _ to.replies (starts to.config to.process to.round to.offset to.starts) to.fit),
+  λ to. rw to.ends at (reached-by _ to.replies (starts to.config to.process to.round to.offset to.first to.starts) to.fit),
 )

@@ -1,7 +1,7 @@
 -- The laws of the procedure, as claims over the definitions, in the words of documents 01 and 02.
-use Rattle.std.specs.Prelude.{◌≡◌, ◌↔◌, ◌⊎◌, true, false, List, [], ◌∷◌, ℕ, ◌+◌, ◌-◌, ◌*◌, ◌≤◌, ◌<◌, ℤ, pos, nat_abs, length, get_or, set}
+use Rattle.std.specs.Prelude.{◌≡◌, ◌↔◌, ◌⊎◌, true, false, List, [], ◌∷◌, ℕ, ◌+◌, ◌-◌, ◌*◌, ◌≤◌, ◌<◌, ℤ, pos, nat_abs, length, get_or, set, Err, Ok, Result}
 use Rattle.std.specs.Int.Count.{ones}
-use Rattle.process.specs.declared.process.Next.TheVariants.{Calls, Decides, Refuses}
+use Rattle.process.specs.declared.process.Next.TheVariants.{Calls, Decides}
 use Rattle.process.specs.declared.process.Phase.TheVariants.{Proposing, Reading, Deciding, Decided}
 use Rattle.process.specs.declared.process.Process.{Process}
 use Rattle.process.specs.declared.process.Step.{Step}
@@ -22,7 +22,7 @@ use Rattle.tuple.specs.declared.offset.Offset.TheVariants.{Hundredths}
 use Rattle.tuple.specs.declared.refusal.Refusal.{Refusal}
 use Rattle.tuple.specs.declared.reply.Outcome.TheVariants.{None, Found, Inserted, Held}
 use Rattle.tuple.specs.declared.reply.Reply.{Reply}
-use Rattle.tuple.specs.Laws.{nothing, no_call}
+use Rattle.tuple.specs.Laws.{nothing}
 use Rattle.tuple.specs.Offsets.{code_of, offset_of}
 use Rattle.tuple.specs.Refusals.{refusal}
 use Rattle.tuple.specs.ShapeLaws.{proposal_of}
@@ -33,10 +33,6 @@ use Rattle.tuple.specs.Shapes.{field}
 -- of 31 processes none is found
 abbrev pub found_zeros : List ℕ
 found_zeros = 0 ∷ 0 ∷ 0 ∷ 0 ∷ 0 ∷ 0 ∷ 0 ∷ 0 ∷ 0 ∷ 0 ∷ 0 ∷ 0 ∷ 0 ∷ 0 ∷ 0 ∷ 0 ∷ 0 ∷ 0 ∷ 0 ∷ 0 ∷ 0 ∷ 0 ∷ 0 ∷ 0 ∷ 0 ∷ 0 ∷ 0 ∷ 0 ∷ 0 ∷ 0 ∷ 0 ∷ []
-
--- the state where none was started
-abbrev pub no_process : Process
-no_process = record { config = record { n = 0; t = 0; policy = 0; k = 0 }; process = 0; round = 0; phase = Proposing; found = found_zeros }
 
 -- ---- states
 
@@ -60,10 +56,11 @@ pub record LedTo (state : Process) : Type 0 where
   pub process : ℕ
   pub round : ℕ
   pub offset : Offset
-  pub starts : (started config process round offset).next ≡ Calls
+  pub first : Step
+  pub starts : started config process round offset ≡ Ok first
   pub replies : List Reply
-  pub fit : EachFits (started config process round offset).process replies
-  pub ends : led (started config process round offset).process replies ≡ state
+  pub fit : EachFits first.process replies
+  pub ends : led first.process replies ≡ state
 
 -- which states are reached, exactly
 abbrev pub ReachedRule : Type 0
@@ -71,10 +68,10 @@ ReachedRule = (process : Process) → Reachable process ↔ LedTo process
 
 -- so well formed is what a start that is not refused gives, and what a fitting reply makes of a well-formed state, each with 31 places
 pub record FormedRule : Type 0 where
-  pub starts : (config : Config) (process round : ℕ) (offset : Offset) → (started config process round offset).next ≡ Calls
-      → (well_formed (started config process round offset).process ≡ true) × (length (started config process round offset).process.found ≡ 31)
+  pub starts : (config : Config) (process round : ℕ) (offset : Offset) (step : Step) → started config process round offset ≡ Ok step
+      → (well_formed step.process ≡ true) × (length step.process.found ≡ 31)
   pub resumes : (process : Process) (reply : Reply) → length process.found ≡ 31 → well_formed process ≡ true → fits process reply ≡ true
-      → (well_formed (resumed process reply).process ≡ true) × (length (resumed process reply).process.found ≡ 31)
+      → (step : Step) × (resumed process reply ≡ Ok step) × (well_formed step.process ≡ true) × (length step.process.found ≡ 31)
 
 -- under policy 3 one that has decided has a choice, and never bottom
 abbrev pub ChoiceDecided : Type 0
@@ -114,50 +111,48 @@ pub record MayPropose (config : Config) (round : ℕ) (offset : Offset) : Type 0
   pub number : (z : ℤ) × (offset ≡ Hundredths z) × (nat_abs z ≤ 100_000)
   pub choice : config.policy ≡ 3 → (z : ℕ) × (z < config.k) × (offset ≡ Hundredths (pos z))
 
--- starting is refused with 1, 6, 3, each exactly when it is the first that holds, beside a blank state and call; else it waits for the reply to the
+-- starting is refused with 1, 6, 3, each exactly when it is the first that holds; else it waits for the reply to the
 -- out (1) of its proposal
 pub record StartOrder (config : Config) (process round : ℕ) (offset : Offset) : Type 0 where
-  pub unsound : ((started config process round offset).next ≡ Refuses (refusal 1)) ↔ (MayStart config → ⊥)
-  pub stranger : ((started config process round offset).next ≡ Refuses (refusal 6)) ↔ (MayStart config × (IsProcess config process → ⊥))
-  pub beyond : ((started config process round offset).next ≡ Refuses (refusal 3))
+  pub unsound : (started config process round offset ≡ Err (refusal 1)) ↔ (MayStart config → ⊥)
+  pub stranger : (started config process round offset ≡ Err (refusal 6)) ↔ (MayStart config × (IsProcess config process → ⊥))
+  pub beyond : (started config process round offset ≡ Err (refusal 3))
       ↔ (MayStart config × IsProcess config process × (MayPropose config round offset → ⊥))
-  pub blank : (why : Refusal) → (started config process round offset).next ≡ Refuses why
-      → ((started config process round offset).process ≡ no_process) × ((started config process round offset).call ≡ no_call)
   pub begins : MayStart config → IsProcess config process → MayPropose config round offset
       → started config process round offset
-      ≡ record {
-        next = Calls;
+      ≡ Ok (record {
         process = record { config = config; process = process; round = round; phase = Proposing; found = found_zeros };
-        call = record { process = process; code = 1; template = nothing; entry = proposal_of round process (code_of offset) };
-      }
+        next = Calls (record { process = process; code = 1; template = nothing; entry = proposal_of round process (code_of offset) });
+      })
 
 abbrev pub StartOrders : Type 0
 StartOrders = (config : Config) (process round : ℕ) (offset : Offset) → StartOrder config process round offset
 
 -- handing a reply is refused with 1, 11, each exactly when it is the first that holds; a well-formed one that has decided is refused none
 pub record HandOrder (process : Process) (reply : Reply) : Type 0 where
-  pub unformed : ((resumed process reply).next ≡ Refuses (refusal 1)) ↔ (well_formed process ≡ false)
-  pub unfit : ((resumed process reply).next ≡ Refuses (refusal 11))
+  pub unformed : (resumed process reply ≡ Err (refusal 1)) ↔ (well_formed process ≡ false)
+  pub unfit : (resumed process reply ≡ Err (refusal 11))
       ↔ ((well_formed process ≡ true) × ((code : ℕ) → process.phase ≡ Decided code → ⊥) × (fits process reply ≡ false))
 
 abbrev pub HandOrders : Type 0
 HandOrders = (process : Process) (reply : Reply) → HandOrder process reply
 
+-- a handing that is not refused
+abbrev pub Gives : Result Step Refusal → (Step → Type 0) → Type 0
+Gives handed P = (step : Step) × (handed ≡ Ok step) × P step
+
 -- a step: it asks for the proposal of process q; it calls cas with the value and all found processes that back it; it has decided the offset of a code.
 -- The configuration, the process and the round stay, and what is then found is said
 pub record Asks (process : Process) (step : Step) (q : ℕ) (found : List ℕ) : Type 0 where
-  pub calls : step.next ≡ Calls
-  pub call : step.call ≡ rdp_call process.process process.round q
+  pub calls : step.next ≡ Calls (rdp_call process.process process.round q)
   pub state : step.process ≡ record { config = process.config; process = process.process; round = process.round; phase = Reading q; found = found }
 
 pub record Casts (process : Process) (step : Step) (value : ℕ) (found : List ℕ) : Type 0 where
-  pub calls : step.next ≡ Calls
-  pub call : step.call ≡ cas_call process.process process.round value (backing_set value found)
+  pub calls : step.next ≡ Calls (cas_call process.process process.round value (backing_set value found))
   pub state : step.process ≡ record { config = process.config; process = process.process; round = process.round; phase = Deciding; found = found }
 
 pub record HasSettled (process : Process) (step : Step) (code : ℕ) : Type 0 where
   pub decides : step.next ≡ Decides (offset_of code)
-  pub call : step.call ≡ no_call
   pub state : step.process ≡ record { config = process.config; process = process.process; round = process.round; phase = Decided code; found = found_zeros }
 
 -- when its proposal is done, it reads the process 1 first
@@ -167,13 +162,13 @@ ReadsFirst =
     → well_formed process ≡ true
     → process.phase ≡ Proposing
     → fits process reply ≡ true
-    → Asks process (resumed process reply) 1 process.found
+    → Gives (resumed process reply) (λ step. Asks process step 1 process.found)
 
 -- after a reading none leaves what is found, and found notes the offset in the fourth field of the tuple for the process asked. Then, if what is found
 -- ends the reading, it calls cas with the value and all found processes that back it, and else reads on behind the one asked
 pub record ReadsOn (process : Process) (reply : Reply) (asked : ℕ) (found : List ℕ) : Type 0 where
-  pub casts : settled process.config found ≡ true → Casts process (resumed process reply) (backed process.config.t found) found
-  pub reads : settled process.config found ≡ false → Asks process (resumed process reply) (next_after process.config.n found asked) found
+  pub casts : settled process.config found ≡ true → Gives (resumed process reply) (λ step. Casts process step (backed process.config.t found) found)
+  pub reads : settled process.config found ≡ false → Gives (resumed process reply) (λ step. Asks process step (next_after process.config.n found asked) found)
 
 pub record ReadRule (process : Process) (reply : Reply) (asked : ℕ) : Type 0 where
   pub none : reply.outcome ≡ None → ReadsOn process reply asked process.found
@@ -189,8 +184,8 @@ ReadRules =
 
 -- after its cas, inserted gives the value of that cas, and held the offset in the third field of the held tuple
 pub record DecidesRule (process : Process) (reply : Reply) : Type 0 where
-  pub inserted : reply.outcome ≡ Inserted → HasSettled process (resumed process reply) (backed process.config.t process.found)
-  pub held : reply.outcome ≡ Held → HasSettled process (resumed process reply) (field reply.tuple 2).value
+  pub inserted : reply.outcome ≡ Inserted → Gives (resumed process reply) (λ step. HasSettled process step (backed process.config.t process.found))
+  pub held : reply.outcome ≡ Held → Gives (resumed process reply) (λ step. HasSettled process step (field reply.tuple 2).value)
 
 abbrev pub DecidesRules : Type 0
 DecidesRules =
@@ -200,13 +195,6 @@ DecidesRules =
     → fits process reply ≡ true
     → DecidesRule process reply
 
--- refused, it leaves the state as before, and gives no call
-abbrev pub Unmoved : Type 0
-Unmoved =
-    (process : Process) (reply : Reply) (why : Refusal)
-    → (resumed process reply).next ≡ Refuses why
-    → ((resumed process reply).process ≡ process) × ((resumed process reply).call ≡ no_call)
-
 -- once decided, the process repeats the decision to every reply handed in, fitting or not
 abbrev pub Repeats : Type 0
 Repeats =
@@ -214,7 +202,7 @@ Repeats =
     → length process.found ≡ 31
     → well_formed process ≡ true
     → process.phase ≡ Decided code
-    → resumed process reply ≡ record { next = Decides (offset_of code); process = process; call = no_call }
+    → resumed process reply ≡ Ok (record { process = process; next = Decides (offset_of code) })
 
 -- ---- when it stops reading, and with what
 

@@ -1,13 +1,13 @@
 -- Document 01, "The procedure of a following seat", and document 02, 2.1: starting a process, and handing it a reply.
-use Rattle.std.specs.Prelude.{ℕ, ◌-◌, Bool, true, false, cond, ◌&&◌, ◌||◌, List, set}
-use Rattle.process.specs.declared.process.Next.TheVariants.{Calls, Decides, Refuses}
+use Rattle.std.specs.Prelude.{ℕ, ◌-◌, Bool, true, false, cond, ◌&&◌, ◌||◌, List, set, Err, Ok, Result}
+use Rattle.process.specs.declared.process.Next.TheVariants.{Calls, Decides}
 use Rattle.process.specs.declared.process.Phase.{Phase}
 use Rattle.process.specs.declared.process.Phase.TheVariants.{Proposing, Reading, Deciding, Decided}
 use Rattle.process.specs.declared.process.Process.{Process}
 use Rattle.process.specs.declared.process.Step.{Step}
 use Rattle.process.specs.Asks.{out_call, rdp_call, cas_call}
 use Rattle.process.specs.Fits.{fits}
-use Rattle.process.specs.States.{none_found, blank_process, startable, well_formed}
+use Rattle.process.specs.States.{none_found, startable, well_formed}
 use Rattle.process.specs.Tallies.{backing_set, backed, settled, next_after}
 use Rattle.policy.specs.Shapes.{decided_code}
 use Rattle.space.specs.declared.config.Config.{Config}
@@ -20,13 +20,8 @@ use Rattle.tuple.specs.declared.refusal.Refusal.{Refusal}
 use Rattle.tuple.specs.declared.reply.Outcome.{Outcome}
 use Rattle.tuple.specs.declared.reply.Outcome.TheVariants.{Done, None, Found, Inserted, Held, Refused}
 use Rattle.tuple.specs.declared.reply.Reply.{Reply}
-use Rattle.tuple.specs.Fields.{blank_call}
 use Rattle.tuple.specs.Offsets.{in_range, code_of, offset_of}
 use Rattle.tuple.specs.Refusals.{refusal}
-
--- a refusal: the state beside it is the one handed in, or blank where none was started, and no call is given
-abbrev pub refused : Process → Refusal → Step
-refused process why = record { next = Refuses why; process = process; call = blank_call }
 
 -- ---- starting
 
@@ -38,19 +33,18 @@ proposable config offset = in_range offset && offered config (code_of offset)
 abbrev pub begun : Config → ℕ → ℕ → Offset → Step
 begun config process round offset =
     record {
-      next = Calls;
       process = record { config = config; process = process; round = round; phase = Proposing; found = none_found };
-      call = out_call process round (code_of offset);
+      next = Calls (out_call process round (code_of offset));
     }
 
 -- the refusals 1, 6 and 3 in this order
-unfoldable pub started : Config → ℕ → ℕ → Offset → Step
+unfoldable pub started : Config → ℕ → ℕ → Offset → Result Step Refusal
 started config process round offset =
     cond (startable config)
     (cond (known config process)
-    (cond (in_rounds round && proposable config offset) (begun config process round offset) (refused blank_process (refusal 3)))
-    (refused blank_process (refusal 6)))
-    (refused blank_process (refusal 1))
+    (cond (in_rounds round && proposable config offset) (Ok (begun config process round offset)) (Err (refusal 3)))
+    (Err (refusal 6)))
+    (Err (refusal 1))
 
 -- ---- what comes next
 
@@ -60,16 +54,16 @@ turned process phase found = record { config = process.config; process = process
 
 -- it asks for the proposal of process q
 abbrev pub reads : Process → List ℕ → ℕ → Step
-reads process found q = record { next = Calls; process = turned process (Reading q) found; call = rdp_call process.process process.round q }
+reads process found q = record { process = turned process (Reading q) found; next = Calls (rdp_call process.process process.round q) }
 
 -- it calls cas with this value and all found processes that back it
 abbrev pub casts : Process → List ℕ → ℕ → Step
 casts process found value =
-    record { next = Calls; process = turned process Deciding found; call = cas_call process.process process.round value (backing_set value found) }
+    record { process = turned process Deciding found; next = Calls (cas_call process.process process.round value (backing_set value found)) }
 
 -- it has decided the offset of this code
 abbrev pub decides : Process → ℕ → Step
-decides process code = record { next = Decides (offset_of code); process = turned process (Decided code) none_found; call = blank_call }
+decides process code = record { process = turned process (Decided code) none_found; next = Decides (offset_of code) }
 
 -- ---- handing it a reply
 
@@ -111,8 +105,8 @@ is_decided Deciding = false
 is_decided (Decided code) = true
 
 -- refusal 1 for a state that is not well formed, then 11 for a reply that doesn't fit, unless it has decided
-unfoldable pub resumed : Process → Reply → Step
+unfoldable pub resumed : Process → Reply → Result Step Refusal
 resumed process reply =
     cond (well_formed process)
-    (cond (is_decided process.phase || fits process reply) (advanced process reply process.phase) (refused process (refusal 11)))
-    (refused process (refusal 1))
+    (cond (is_decided process.phase || fits process reply) (Ok (advanced process reply process.phase)) (Err (refusal 11)))
+    (Err (refusal 1))

@@ -14,7 +14,7 @@ use Rattle.space.specs.Shapes.{in_rounds}
 abbrev pub none_found : List ℕ
 none_found = replicate processes 0
 
--- the state that stands beside a refused start
+-- the state that stands where no process was started
 abbrev pub blank_process : Process
 blank_process = record { config = blank_config; process = 0; round = 0; phase = Proposing; found = none_found }
 

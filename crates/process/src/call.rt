@@ -15,7 +15,7 @@ pub(crate) fn out_call(process: u32, round: u64, code: u64) -> Call
         process,
         code: OUT,
         template: Tuple::blank(),
-        entry: make(PROPOSAL, round, process as u64, code, 0),
+        entry: make(PROPOSAL, round, u64::from(process), code, 0),
     }
 }
 

@@ -5,7 +5,7 @@ ghost use Rattle.space.specs.Configs.{sound};
 
 use crate::tally::settled;
 use space::{Config, PROCESSES, ROUNDS, decidable, offered};
-use tuple::{Call, Offset, Refusal};
+use tuple::{Call, Offset};
 
 // What the process waits for.
 #[derive(Clone, Copy)]
@@ -34,23 +34,20 @@ pub struct Process {
 // What starting a process, or handing it a reply, gives.
 #[derive(Clone, Copy)]
 pub enum Next {
-    // The call beside it.
-    Calls,
+    Calls(Call),
     // The decision of its round.
     Decides(Offset),
-    Refuses(Refusal),
 }
 
-// What comes next, the state then, and the call if there is one; it is blank where there is none.
+// The state then, and what comes next.
 #[derive(Clone, Copy)]
 pub struct Step {
-    pub next: Next,
     pub process: Process,
-    pub call: Call,
+    pub next: Next,
 }
 
 impl Process {
-    // The state that stands beside a refused start.
+    // The state that stands where no process was started.
     pub fn blank() -> Self
         ensures { result ≡ blank_process }
     {
@@ -64,34 +61,24 @@ impl Process {
     }
 
     // Whether a state is one that the procedure can reach by fitting replies.
+    #[tactic(auto, using(crate::proofs::StateSteps::startable_sound), unfolding(crate::specs::States::well_formed))]
     pub fn is_well_formed(self) -> bool
         ensures { result ≡ well_formed self }
     {
         let config = self.config;
-        let phase = self.phase;
-        let found = self.found;
-        if !startable(config) {
-            return false;
-        }
-        if !config.knows(self.process as u64) {
-            return false;
-        }
-        if ROUNDS <= self.round {
-            return false;
-        }
-        phase_sound(config, found, phase)
+        startable(config)
+            && config.knows(u64::from(self.process))
+            && self.round < ROUNDS
+            && phase_sound(config, self.found, self.phase)
     }
 }
 
 // Whether a process can start: a sound configuration under policy 2 or 3.
+#[tactic(auto, unfolding(crate::specs::States::startable))]
 pub(crate) fn startable(config: Config) -> bool
     ensures { result ≡ startable· config }
 {
-    if config.is_sound() {
-        config.has_proposals()
-    } else {
-        false
-    }
+    config.is_sound() && config.has_proposals()
 }
 
 fn phase_sound(config: Config, found: [u64; PROCESSES], phase: Phase) -> bool
@@ -102,55 +89,38 @@ fn phase_sound(config: Config, found: [u64; PROCESSES], phase: Phase) -> bool
         Phase::Proposing => found_sound(config, found, 0),
         Phase::Reading(asked) => reading_sound(config, found, asked),
         Phase::Deciding => deciding_sound(config, found),
-        Phase::Decided(code) => {
-            if found_sound(config, found, 0) {
-                decidable(config, code)
-            } else {
-                false
-            }
-        }
+        Phase::Decided(code) => found_sound(config, found, 0) && decidable(config, code),
     }
 }
 
 // Reading: the process asked is not found, and what is found does not end the reading.
+#[tactic(auto, using(crate::proofs::StateSteps::sound_few, crate::proofs::StateSteps::known_place), unfolding(crate::specs::States::reading_sound))]
 fn reading_sound(config: Config, found: [u64; PROCESSES], asked: u64) -> bool
     requires { sound config ≡ true }
     ensures { result ≡ reading_sound config found asked }
 {
-    if !found_sound(config, found, config.n) {
-        return false;
-    }
-    if !config.knows(asked) {
-        return false;
-    }
-    if found[(asked - 1) as usize] != 0 {
-        return false;
-    }
-    !settled(config, found)
+    found_sound(config, found, config.n)
+        && config.knows(asked)
+        && found[(asked - 1) as usize] == 0
+        && !settled(config, found)
 }
 
 // Deciding: what is found ended the reading, and only the last one found ended it.
+#[tactic(auto, using(crate::proofs::StateSteps::sound_few), unfolding(crate::specs::States::deciding_sound))]
 fn deciding_sound(config: Config, found: [u64; PROCESSES]) -> bool
     requires { sound config ≡ true }
     ensures { result ≡ deciding_sound config found }
 {
-    if !found_sound(config, found, config.n) {
-        return false;
-    }
-    if !settled(config, found) {
-        return false;
-    }
-    last_ends(config, found)
+    found_sound(config, found, config.n) && settled(config, found) && last_ends(config, found)
 }
 
 // Whether some one of the processes ended the reading: without it, it would go on.
+#[tactic(auto, using(crate::proofs::StateSteps::sound_few, crate::proofs::StateSteps::last_here, crate::proofs::StateSteps::last_more, crate::proofs::StateSteps::last_none))]
 fn last_ends(config: Config, found: [u64; PROCESSES]) -> bool
     requires { sound config ≡ true }
     ensures { result ≡ last_ends config found config.n }
 {
-    let mut k = config.n as usize;
-    while 0 < k {
-        k -= 1;
+    for k in (0..config.n as usize).rev() {
         let mut less = found;
         less[k] = 0;
         if !settled(config, less) {
@@ -164,21 +134,15 @@ fn last_ends(config: Config, found: [u64; PROCESSES]) -> bool
 fn found_sound(config: Config, found: [u64; PROCESSES], n: u64) -> bool
     ensures { result ≡ found_sound config n found }
 {
-    let mut i = 0;
-    while i < PROCESSES {
-        if !code_sound(config, found[i], (i as u64) < n) {
-            return false;
-        }
-        i += 1;
-    }
-    true
+    found
+        .iter()
+        .enumerate()
+        .all(|(i, code)| code_sound(config, *code, (i as u64) < n))
 }
 
+#[tactic(auto, unfolding(crate::specs::States::code_sound))]
 fn code_sound(config: Config, code: u64, used: bool) -> bool
     ensures { result ≡ code_sound config code used }
 {
-    if code == 0 {
-        return true;
-    }
-    if used { offered(config, code) } else { false }
+    code == 0 || (used && offered(config, code))
 }

@@ -7,87 +7,68 @@ use mathlib.Core.Bool.{Bool}
 use mathlib.Core.List.{List, [], ◌∷◌, ◌++◌, append-nil}
 use lib.ListN.{length, take, drop, set, replicate, length-set, take-append-drop}
 use lib.Seq.{take-suc-set, drop-set-lt, drop-drop, append_snoc}
+use Rattle.std.specs.Prelude.{Err, Ok}
 use Rattle.record.specs.declared.reader.Cursor.{Cursor}
-use Rattle.record.specs.declared.reader.Next.{Next}
-use Rattle.record.specs.declared.reader.Next.TheVariants.{At, Refused}
-use Rattle.record.specs.declared.reader.ReadField.{ReadField}
-use Rattle.record.specs.declared.reader.ReadTuple.{ReadTuple}
-use Rattle.record.specs.Reading.{place, no_tuple, ReadFields, no_fields, prepend, field_at, fields_at, tuple_step}
-use Rattle.record.proofs.Steps.{goes_on, stops}
+use Rattle.record.specs.Reading.{Reading, taken, onward, field_at, fields_at, tuple_step}
 use Rattle.tuple.specs.declared.field.Field.{Field}
+use Rattle.tuple.specs.declared.field.Tuple.{Tuple}
 use Rattle.tuple.specs.declared.refusal.Refusal.{Refusal}
 use Rattle.tuple.specs.Bounds.{places}
 use Rattle.tuple.specs.Fields.{blank_field}
 
--- fields, and what was read behind them
-abbrev joined : List Field → ReadFields → ReadFields
-joined fields read = record { next = read.next; fields = fields ++ read.fields }
+-- a tuple of `count` fields, of which these were read, and what is left of them is read from here
+abbrev rest_of : ℕ → List Field → Reading (List Field) → Reading Tuple
+rest_of count fields read = onward read (λ more. tuple_step count (fields ++ more))
 
--- of `count` fields to be read from the place start on, i stand in the array, and reading goes on at the place `at`
-pub record Passed (entry : Bool) (s : List ℕ) (count start : ℕ) (fields : List Field) (at i : ℕ) : Type 0 where
+one-more : (count : ℕ) (fields : List Field) (field : Field) (read : Reading (List Field))
+    → rest_of count fields (onward read (λ more end. taken (field ∷ more) end)) ≡ rest_of count (fields ++ (field ∷ [])) read
+one-more count fields field (Ok (more, cursor)) = ap (λ (l : List Field). tuple_step count l cursor.at) (sym (append_snoc fields field more))
+one-more count fields field (Err why) = refl
+
+-- `whole` reads a tuple of `count` fields, of which i stand in `tuple`, and goes on at the place `at`
+pub record Passed (entry : Bool) (s : List ℕ) (count : ℕ) (whole : Reading Tuple) (tuple : Tuple) (at i : ℕ) : Type 0 where
   pub few : i ≤ count
-  pub long : length fields ≡ places
-  pub rest : drop i fields ≡ replicate (places - i) blank_field
-  pub same : fields_at entry count s start ≡ joined (take i fields) (fields_at entry (count - i) s at)
+  pub counted : tuple.count ≡ count
+  pub long : length tuple.fields ≡ places
+  pub rest : drop i tuple.fields ≡ replicate (places - i) blank_field
+  pub same : whole ≡ rest_of count (take i tuple.fields) (fields_at entry (count - i) s at)
 
-pub passed_none : (entry : Bool) (s : List ℕ) (count start : ℕ) → Passed entry s count start (replicate places blank_field) start 0
-passed_none entry s count start =
-    record { few = omega arith; long = refl; rest = refl; same = ap (λ (n : ℕ). fields_at entry n s start) (omega arith) }
-
-module _ (entry : Bool) (s : List ℕ) (count start : ℕ) (most : count ≤ places) (fields : List Field) (at i : ℕ) (passed : Passed entry s count start fields at i) where
-  module _ (more : i < count) (read : ReadField) (field-read : read ≡ field_at entry s at) where
-    next_of : ReadField → Next
-    next_of r = r.next
-
-    go : ReadField → ℕ → ReadFields
-    go r next = prepend r.field (fields_at entry (count - (i + 1)) s next)
-
+module _ {entry : Bool} {s : List ℕ} {count : ℕ} (most : count ≤ places) {whole : Reading Tuple} {tuple : Tuple} {at i : ℕ}
+    (passed : Passed entry s count whole tuple at i) where
+  module _ (more : i < count) where
     left : count - i ≡ suc (count - (i + 1))
     left = omega arith
 
-    pub passed-more : (cursor : Cursor) → read.next ≡ At cursor → Passed entry s count start (set fields i read.field) cursor.at (i + 1)
-    unfolding fields_at next_of go
-    passed-more cursor e =
+    pub passed-more : {field : Field} {cursor : Cursor} → field_at entry s at ≡ Ok (field, cursor)
+        → Passed entry s count whole (record { count = tuple.count; fields = set tuple.fields i field }) cursor.at (i + 1)
+    unfolding fields_at
+    passed-more {field} {cursor} e =
+        let fields = tuple.fields in
         let inside : i < length fields = omega (arith, passed.long) in
-        let taken : take (i + 1) (set fields i read.field) ≡ take i fields ++ (read.field ∷ []) =
-        ap (λ (k : ℕ). take k (set fields i read.field)) (add-one i) ∙ take-suc-set fields i read.field inside in
+        let front : take (i + 1) (set fields i field) ≡ take i fields ++ (field ∷ []) =
+        ap (λ (k : ℕ). take k (set fields i field)) (add-one i) ∙ take-suc-set fields i field inside in
         let one_less : places - i ≡ suc (places - (i + 1)) = omega arith in
         let behind : drop (i + 1) fields ≡ replicate (places - (i + 1)) blank_field =
         sym (drop-drop 1 i fields) ∙ ap (drop 1) (passed.rest ∙ ap (λ (n : ℕ). replicate n blank_field) one_less) in
         record {
           few = omega arith;
-          long = length-set fields i read.field ∙ passed.long;
-          rest = drop-set-lt (i + 1) fields i read.field (omega arith) ∙ behind;
+          counted = passed.counted;
+          long = length-set fields i field ∙ passed.long;
+          rest = drop-set-lt (i + 1) fields i field (omega arith) ∙ behind;
           same =
-              passed.same
-              ∙ ap (λ (n : ℕ). joined (take i fields) (fields_at entry n s at)) left
-              ∙ ap (joined (take i fields)) (goes_on next_of go no_fields read (field_at entry s at) field-read cursor e)
-              ∙ (λ k. record {
-                next = (fields_at entry (count - (i + 1)) s cursor.at).next;
-                fields = sym (append_snoc (take i fields) read.field (fields_at entry (count - (i + 1)) s cursor.at).fields) k;
-              })
-              ∙ ap (λ (l : List Field). joined l (fields_at entry (count - (i + 1)) s cursor.at)) (sym taken);
+              passed.same ∙ rw (left, e, front) (one-more count (take i fields) field (fields_at entry (count - (i + 1)) s cursor.at));
         }
 
-    pub passed-stop : (refusal : Refusal) → read.next ≡ Refused refusal → tuple_step count (fields_at entry count s start) ≡ no_tuple read.next
-    unfolding fields_at next_of go
-    passed-stop refusal e =
-        ap (tuple_step count)
-        (passed.same
-        ∙ ap (λ (n : ℕ). joined (take i fields) (fields_at entry n s at)) left
-        ∙ ap (joined (take i fields)) (stops next_of go no_fields read (field_at entry s at) field-read refusal e)
-        ∙ ap (λ (n : Next). joined (take i fields) (no_fields n)) e)
-        ∙ ap no_tuple (sym e)
+    pub passed-stop : {why : Refusal} → field_at entry s at ≡ Err why → whole ≡ Err why
+    unfolding fields_at
+    passed-stop e = passed.same ∙ rw (left, e)
 
-  pub passed-all : count ≤ i → tuple_step count (fields_at entry count s start) ≡ record { next = place at; tuple = record { count = count; fields = fields } }
+  pub passed-all : count ≤ i → whole ≡ taken tuple at
   unfolding fields_at
   passed-all all =
       let end : i ≡ count = omega (arith, passed.few) in
       let none : count - i ≡ 0 = omega arith in
-      ap (tuple_step count)
-      (passed.same ∙ ap (λ (n : ℕ). joined (take i fields) (fields_at entry n s at)) none)
-      ∙ ap {B = ReadTuple} (λ (l : List Field). record { next = place at; tuple = record { count = count; fields = l } })
-      (ap (λ (l : List Field). l ++ replicate (places - count) blank_field) (append-nil (take i fields))
-      ∙ ap (λ (k : ℕ). take i fields ++ replicate (places - k) blank_field) (sym end)
-      ∙ ap (λ (l : List Field). take i fields ++ l) (sym passed.rest)
-      ∙ take-append-drop i fields)
+      let blank : replicate (places - count) blank_field ≡ drop i tuple.fields =
+      sym (passed.rest ∙ ap (λ (k : ℕ). replicate (places - k) blank_field) end) in
+      passed.same
+      ∙ rw (none, append-nil, blank, take-append-drop i tuple.fields, sym passed.counted)

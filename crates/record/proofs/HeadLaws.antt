@@ -4,8 +4,7 @@ use Prim.Native.Nat.{ℕ, ◌+◌, ◌*◌, ◌/◌, ◌%◌, ◌≤◌}
 use native.Mathlib.Omega.{arith}
 use mathlib.Core.Bool.{true, ◌&&◌}
 use lib.Dec.{leb, eqb}
-use Rattle.record.specs.declared.head.Head.{Head}
-use Rattle.record.specs.declared.head.Head.TheVariants.{Known, Unknown}
+use Rattle.std.specs.Prelude.{None, Option, Some}
 use Rattle.record.specs.Heads.{head_number, head_of}
 use Rattle.record.specs.Laws.{HeadRule}
 use Rattle.tuple.proofs.NoFault.{known-head}
@@ -38,7 +37,7 @@ head-rule =
 
 -- ---- a known field's head
 
-pub head-of : (field : Field) → known_head field ≡ true → head_of (head_number field) ≡ Known field.kind field.state
+pub head-of : (field : Field) → known_head field ≡ true → head_of (head_number field) ≡ Some (field.kind, field.state)
 unfolding head_of known_head
 head-of field known =
     let head = known-head field known in
@@ -47,9 +46,9 @@ head-of field known =
     rw (kind, state, known)
 
 -- the number is the head of a known field with the kind and the state that are said
-unfoldable pub Says : ℕ → Head → Type 0
-Says number (Known kind state) = (number ≡ 4 * kind + state) × ((value : ℕ) → known_head (record { kind = kind; state = state; value = value }) ≡ true)
-Says number Unknown = Unit {0}
+unfoldable pub Says : ℕ → Option (ℕ × ℕ) → Type 0
+Says number (Some (kind, state)) = (number ≡ 4 * kind + state) × ((value : ℕ) → known_head (record { kind = kind; state = state; value = value }) ≡ true)
+Says number None = Unit {0}
 
 pub head-says : (number : ℕ) → Says number (head_of number)
 unfolding Says head_of known_head
@@ -65,7 +64,7 @@ other-state number kind e n0 n1 n2 = omega arith
 last-kind : (kind : ℕ) → 1 ≤ kind → kind ≤ 4 → (kind ≡ 1 → ⊥) → (kind ≡ 2 → ⊥) → (kind ≡ 3 → ⊥) → kind ≡ 4
 last-kind kind low high n1 n2 n3 = omega arith
 
-no-state : (number : ℕ) → (1 ≤ number / 4 → number / 4 ≤ 4 → number % 4 ≡ 3) → head_of number ≡ Unknown
+no-state : (number : ℕ) → (1 ≤ number / 4 → number / 4 ≤ 4 → number % 4 ≡ 3) → head_of number ≡ None
 unfolding head_of
 no-state number three =
     cases (leb 1 (number / 4))
@@ -77,7 +76,7 @@ no-state number three =
 pub no-head : (number : ℕ)
     → (number ≡ 4 → ⊥) → (number ≡ 5 → ⊥) → (number ≡ 6 → ⊥) → (number ≡ 8 → ⊥) → (number ≡ 9 → ⊥) → (number ≡ 10 → ⊥)
     → (number ≡ 12 → ⊥) → (number ≡ 13 → ⊥) → (number ≡ 14 → ⊥) → (number ≡ 16 → ⊥) → (number ≡ 17 → ⊥) → (number ≡ 18 → ⊥)
-    → head_of number ≡ Unknown
+    → head_of number ≡ None
 no-head number n4 n5 n6 n8 n9 n10 n12 n13 n14 n16 n17 n18 =
     no-state number
     (λ low high.

@@ -12,7 +12,7 @@ use Rattle.record.specs.Writing.{field_bytes, fields_bytes, tuple_bytes, part_by
 use Rattle.record.specs.Laws.{AtMost, Attained}
 use Rattle.tuple.proofs.NoFault.{known-head, PassedField, fields-sound, tuple-sound, call-sound}
 use Rattle.varint.proofs.ReadingLaws.{picked}
-use Rattle.tuple.specs.declared.fault.Fault.TheVariants.{Absent}
+use Rattle.std.specs.Prelude.{Ok}
 use Rattle.tuple.specs.declared.field.Field.{Field}
 use Rattle.tuple.specs.declared.field.Tuple.{Tuple}
 use Rattle.tuple.specs.declared.field.Call.{Call}
@@ -47,7 +47,7 @@ module _ (most : ℕ) where
       picked (λ (l : List ℕ). length l ≤ most) (is_defined field) narrow (λ d. omega arith) in
       simp length-append (omega (arith, width_one (head_number field) (omega arith)))
 
-  fields_within : (entry : Bool) (fields : List Field) → fields_fault entry fields ≡ Absent → Narrow most fields
+  fields_within : (entry : Bool) (fields : List Field) → fields_fault entry fields ≡ Ok tt → Narrow most fields
       → length (fields_bytes fields) ≤ (1 + most) * length fields
   unfolding fields_bytes
   fields_within entry [] h narrow = omega arith
@@ -57,7 +57,7 @@ module _ (most : ℕ) where
       (omega (arith, mul-add (1 + most) 1 (length fields), field-within sound.0 narrow.0, fields_within entry fields sound.1 narrow.1))
 
   -- a count of one byte, and at most six fields
-  tuple-within : (entry : Bool) (tuple : Tuple) → tuple_fault entry tuple ≡ Absent → Narrow most (take tuple.count tuple.fields)
+  tuple-within : (entry : Bool) (tuple : Tuple) → tuple_fault entry tuple ≡ Ok tt → Narrow most (take tuple.count tuple.fields)
       → length (tuple_bytes tuple) ≤ 1 + (1 + most) * 6
   unfolding tuple_bytes
   tuple-within entry tuple h narrow =
@@ -67,14 +67,14 @@ module _ (most : ℕ) where
       simp length-append
       (omega (arith, width_one tuple.count (omega arith), fields_within entry fields sound.fields narrow, mul-le-mul_left (1 + most) six))
 
-  part-within : (used entry : Bool) (tuple : Tuple) → part_fault tuple used entry ≡ Absent → (used ≡ true → Narrow most (take tuple.count tuple.fields))
+  part-within : (used entry : Bool) (tuple : Tuple) → part_fault tuple used entry ≡ Ok tt → (used ≡ true → Narrow most (take tuple.count tuple.fields))
       → length (part_bytes used tuple) ≤ 1 + (1 + most) * 6
   unfolding part_bytes part_fault
   part-within true entry tuple h narrow = tuple-within entry tuple h (narrow refl)
   part-within false entry tuple h narrow = omega arith
 
   -- a process of at most five bytes, a code of one, and two parts
-  pub call-within : (call : Call) → Typed call → call_fault call ≡ Absent
+  pub call-within : (call : Call) → Typed call → call_fault call ≡ Ok tt
       → (uses_template call.code ≡ true → Narrow most (take call.template.count call.template.fields))
       → (uses_entry call.code ≡ true → Narrow most (take call.entry.count call.entry.fields))
       → length (call_bytes call) ≤ 6 + 2 * (1 + (1 + most) * 6)
@@ -95,10 +95,10 @@ module _ (most : ℕ) where
 pub field-most : {entry : Bool} {field : Field} → PassedField entry field → length (field_bytes field) ≤ 11
 field-most {field = field} sound = field-within 10 sound (λ d. width-most field.value)
 
-pub fields-most : (entry : Bool) (fields : List Field) → fields_fault entry fields ≡ Absent → length (fields_bytes fields) ≤ 11 * length fields
+pub fields-most : (entry : Bool) (fields : List Field) → fields_fault entry fields ≡ Ok tt → length (fields_bytes fields) ≤ 11 * length fields
 fields-most entry fields h = fields_within 10 entry fields h (narrow-any fields)
 
-pub tuple-most : (entry : Bool) (tuple : Tuple) → tuple_fault entry tuple ≡ Absent → length (tuple_bytes tuple) ≤ 67
+pub tuple-most : (entry : Bool) (tuple : Tuple) → tuple_fault entry tuple ≡ Ok tt → length (tuple_bytes tuple) ≤ 67
 tuple-most entry tuple h = tuple-within 10 entry tuple h (narrow-any (take tuple.count tuple.fields))
 
 pub at_most : AtMost

@@ -13,7 +13,7 @@ use borrow.Table.Steps.{cases}
 use Rattle.record.specs.Writing.{field_bytes, fields_bytes, tuple_bytes, part_bytes, call_bytes, Typed}
 use Rattle.record.specs.Laws.{field_numbers, fields_numbers, tuple_numbers, call_numbers, numbers_bytes, Old, OldTuple, OldCall, OldRecords}
 use Rattle.record.proofs.Length.{Narrow, call-within}
-use Rattle.tuple.specs.declared.fault.Fault.TheVariants.{Absent}
+use Rattle.std.specs.Prelude.{Ok}
 use Rattle.tuple.specs.declared.field.Field.{Field}
 use Rattle.tuple.specs.declared.field.Tuple.{Tuple}
 use Rattle.tuple.specs.declared.field.Call.{Call}
@@ -94,7 +94,7 @@ field-old f sound =
       λ old. (omega (arith, known.0, known.1), picked Old (is_defined f) (λ d. (value-few f sound old d, tt)) (λ d. tt)),
     )
 
-fields-old : (entry : Bool) (n : ℕ) (fields : List Field) → n ≤ length fields → fields_fault entry (take n fields) ≡ Absent
+fields-old : (entry : Bool) (n : ℕ) (fields : List Field) → n ≤ length fields → fields_fault entry (take n fields) ≡ Ok tt
     → Old (fields_numbers (take n fields)) ↔ ((i : ℕ) → i < n → OldField (get_or fields i blank_field))
 fields-old entry zero fields few none = (λ h i below. absurd (omega arith), λ h. tt)
 fields-old entry (suc n) [] few none = absurd (omega arith)
@@ -107,7 +107,7 @@ fields-old entry (suc n) (f ∷ fields) few none =
       λ old. both.1 (here.1 (old 0 (omega arith)), behind.1 (λ i below. old (suc i) (omega arith))),
     )
 
-part-old : (used entry : Bool) (tuple : Tuple) → length tuple.fields ≡ places → part_fault tuple used entry ≡ Absent
+part-old : (used entry : Bool) (tuple : Tuple) → length tuple.fields ≡ places → part_fault tuple used entry ≡ Ok tt
     → Old (cond used (tuple_numbers tuple) []) ↔ (used ≡ true → OldTuple tuple)
 unfolding part_fault
 part-old true entry tuple six none =
@@ -116,7 +116,7 @@ part-old true entry tuple six none =
     (λ h u. fields.0 h.1, λ old. (omega (arith, sound.few), fields.1 (old refl)))
 part-old false entry tuple six none = (λ h u. absurd (false≢true u), λ old. tt)
 
-module _ (call : Call) (typed : Typed call) (none : call_fault call ≡ Absent) where
+module _ (call : Call) (typed : Typed call) (none : call_fault call ≡ Ok tt) where
   abbrev template_numbers : List ℕ
   template_numbers = cond (uses_template call.code) (tuple_numbers call.template) []
 

@@ -8,34 +8,25 @@ use lib.ListN.{length, take, drop, replicate, length-append, length-replicate}
 use lib.Seq.{take_at}
 use lib.Dec.{leb, eqb}
 use borrow.Author.Tests.{leb-true, eqb-true}
-use Rattle.record.specs.declared.head.Head.{Head}
-use Rattle.record.specs.declared.head.Head.TheVariants.{Known, Unknown}
-use Rattle.record.specs.declared.reader.Next.{Next}
-use Rattle.record.specs.declared.reader.Next.TheVariants.{At, Refused}
-use Rattle.record.specs.declared.reader.ReadNumber.{ReadNumber}
-use Rattle.record.specs.declared.reader.ReadField.{ReadField}
-use Rattle.record.specs.declared.reader.ReadTuple.{ReadTuple}
-use Rattle.record.specs.declared.reader.ReadCall.{ReadCall}
+use Rattle.std.specs.Prelude.{Err, None, Ok, Option, Some}
+use Rattle.varint.specs.declared.ReadError.TheVariants.{Cut, Overlong}
 use Rattle.record.specs.Heads.{head_of}
-use Rattle.record.specs.Reading.{onward, no_field, no_fields, no_tuple, no_call, number_step, read_number, value_at, head_step, field_at, ReadFields, fields_at, tuple_at, part_at, parts_at, is_code, body_at, call_at}
+use Rattle.record.specs.Reading.{Reading, onward, number_step, read_number, value_at, head_step, field_at, fields_at, tuple_at, part_at, parts_at, is_code, body_at, call_at}
 use Rattle.record.specs.Writing.{field_bytes, fields_bytes, tuple_bytes, part_bytes, call_bytes}
 use Rattle.record.specs.Laws.{Read, OnlyForm, OnlyOne}
 use Rattle.record.proofs.HeadLaws.{Says, head-says}
 use Rattle.varint.proofs.ReadingLaws.{picked}
 use Rattle.tuple.proofs.NoFault.{between, PassedPart}
-use Rattle.tuple.specs.declared.fault.Fault.TheVariants.{Absent}
 use Rattle.tuple.specs.declared.field.Field.{Field}
 use Rattle.tuple.specs.declared.field.Tuple.{Tuple}
 use Rattle.tuple.specs.declared.field.Call.{Call}
-use Rattle.tuple.specs.declared.refusal.Refusal.{Refusal}
 use Rattle.tuple.specs.Fields.{defined, out, cas, largest_of, blank_field}
 use Rattle.tuple.specs.Bounds.{places, largest_process}
 use Rattle.tuple.specs.Faults.{known_head, field_fault, fields_fault, tuple_fault, part_fault, uses_template, uses_entry, used_fault, is_blank, place_blank, rest_from, rest_blank, call_fault}
 use Rattle.tuple.proofs.FaultLaws.{defined-fault}
-use Rattle.varint.specs.declared.Number.{Number}
-use Rattle.varint.specs.declared.Number.TheVariants.{Value, Cut, Overlong}
 use Rattle.varint.specs.Reading.{largest, number_at, Bytes}
 use Rattle.varint.specs.Writing.{bytes_of}
+use Rattle.varint.specs.Reading as numbers
 use Rattle.varint.proofs.ReadingLaws as varint
 
 -- ---- bytes taken
@@ -57,20 +48,16 @@ took-both {s} {next = next} {a = a} {b = b} f g =
 
 -- ---- answers that are no refusal
 
--- it holds of the next place, if there is one
-abbrev Reads : (ℕ → Type 0) → Next → Type 0
-Reads P (At cursor) = P cursor.at
-Reads P (Refused refusal) = Unit {0}
+-- it holds of the value and of the place behind it, if there is a value
+abbrev Reads : {X : Type 0} → (X → ℕ → Type 0) → Reading X → Type 0
+Reads P (Ok (value, cursor)) = P value cursor.at
+Reads P (Err why) = Unit {0}
 
-reads-map : {P Q : ℕ → Type 0} (next : Next) → Reads P next → ((n : ℕ) → P n → Q n) → Reads Q next
-reads-map (At cursor) h f = f cursor.at h
-reads-map (Refused refusal) h f = tt
-
--- an answer that goes onward from a next place
-reads-onward : {X : Type 0} {P : ℕ → Type 0} (Q : X → Type 0) (next : Next) {go : ℕ → X} (stop : Next → X) → Reads P next
-    → ((n : ℕ) → P n → Q (go n)) → ((refusal : Refusal) → Q (stop (Refused refusal))) → Q (onward next go stop)
-reads-onward Q (At cursor) stop h f g = f cursor.at h
-reads-onward Q (Refused refusal) stop h f g = g refusal
+-- what goes onward with the value
+reads-onward : {X Y : Type 0} {P : X → ℕ → Type 0} (Q : Y → ℕ → Type 0) (read : Reading X) (go : X → ℕ → Reading Y) → Reads P read
+    → ((value : X) (next : ℕ) → P value next → Reads Q (go value next)) → Reads Q (onward read go)
+reads-onward Q (Ok (value, cursor)) go h f = f value cursor.at h
+reads-onward Q (Err why) go h f = tt
 
 -- ---- what holds of each answer
 
@@ -80,13 +67,13 @@ record NumberRead (s : List ℕ) (at value next : ℕ) : Type 0 where
 
 record FieldRead (entry : Bool) (s : List ℕ) (at : ℕ) (field : Field) (next : ℕ) : Type 0 where
   took : Took s at next (field_bytes field)
-  sound : field_fault entry field ≡ Absent
+  sound : field_fault entry field ≡ Ok tt
   blank : place_blank field true ≡ true
 
 record FieldsRead (entry : Bool) (count : ℕ) (s : List ℕ) (at : ℕ) (fields : List Field) (next : ℕ) : Type 0 where
   took : Took s at next (fields_bytes fields)
   counted : length fields ≡ count
-  sound : fields_fault entry fields ≡ Absent
+  sound : fields_fault entry fields ≡ Ok tt
   blank : (n : ℕ) → rest_from count (fields ++ replicate n blank_field) ≡ true
 
 record PartRead (used entry : Bool) (s : List ℕ) (at : ℕ) (tuple : Tuple) (next : ℕ) : Type 0 where
@@ -94,20 +81,8 @@ record PartRead (used entry : Bool) (s : List ℕ) (at : ℕ) (tuple : Tuple) (n
   six : length tuple.fields ≡ places
   sound : PassedPart used entry tuple
 
-abbrev NumberForm : List ℕ → ℕ → ReadNumber → Type 0
-NumberForm s at read = Reads (NumberRead s at read.value) read.next
-
-abbrev FieldForm : Bool → List ℕ → ℕ → ReadField → Type 0
-FieldForm entry s at read = Reads (FieldRead entry s at read.field) read.next
-
-abbrev FieldsForm : Bool → ℕ → List ℕ → ℕ → ReadFields → Type 0
-FieldsForm entry count s at read = Reads (FieldsRead entry count s at read.fields) read.next
-
-abbrev PartForm : Bool → Bool → List ℕ → ℕ → ReadTuple → Type 0
-PartForm used entry s at read = Reads (PartRead used entry s at read.tuple) read.next
-
-abbrev CallForm : List ℕ → ℕ → ReadCall → Type 0
-CallForm s at read = Reads (λ next. Read s at next read.call) read.next
+abbrev CallRead : List ℕ → ℕ → Call → ℕ → Type 0
+CallRead s at call next = Read s at next call
 
 -- ---- from the parts to the whole
 
@@ -153,114 +128,94 @@ call-read few e process code template entry =
 -- ---- what reads
 
 module _ (s : List ℕ) (bytes : Bytes s) where
-  number-step-form : (at : ℕ) (number : Number) → number_at s at ≡ number → NumberForm s at (number_step number)
-  number-step-form at (Value value next) e =
+  number-step-form : (at : ℕ) (number : numbers.Read) → number_at s at ≡ number → Reads (NumberRead s at) (number_step number)
+  number-step-form at (Ok (value, next)) e =
       let form = varint.only-form s at value next bytes e in record { most = form.0; took = record { taken = form.1; stand = form.2 } }
-  number-step-form at Cut e = tt
-  number-step-form at Overlong e = tt
+  number-step-form at (Err Cut) e = tt
+  number-step-form at (Err Overlong) e = tt
 
-  number-form : (at : ℕ) → NumberForm s at (read_number s at)
+  number-form : (at : ℕ) → Reads (NumberRead s at) (read_number s at)
   unfolding read_number
   number-form at = number-step-form at (number_at s at) refl
 
   value-form : (entry : Bool) (kind at mid : ℕ) → Took s at mid (bytes_of (4 * kind + defined))
-      → ((value : ℕ) → known_head (record { kind = kind; state = defined; value = value }) ≡ true) → FieldForm entry s at (value_at kind s mid)
+      → ((value : ℕ) → known_head (record { kind = kind; state = defined; value = value }) ≡ true) → Reads (FieldRead entry s at) (value_at kind s mid)
   unfolding value_at field_bytes place_blank
   value-form entry kind at mid took known =
-      let read = read_number s mid in
-      reads-onward (FieldForm entry s at) read.next no_field (number-form mid)
-      (λ next value. picked (FieldForm entry s at) (leb read.value (largest_of kind))
+      reads-onward (FieldRead entry s at) (read_number s mid) _ (number-form mid)
+      (λ value next number. picked (Reads (FieldRead entry s at)) (leb value (largest_of kind))
       (λ e. record {
-        took = took-both took value.took;
-        sound = defined-fault entry (record { kind = kind; state = defined; value = read.value }) (known read.value) refl ∙ rw e;
+        took = took-both took number.took;
+        sound = defined-fault entry (record { kind = kind; state = defined; value = value }) (known value) refl ∙ rw e;
         blank = refl;
       })
       (λ e. tt))
-      (λ refusal. tt)
 
-  head-step-form : (entry : Bool) {number at mid : ℕ} (head : Head) → NumberRead s at number mid → Says number head
-      → FieldForm entry s at (head_step entry s mid head)
+  head-step-form : (entry : Bool) {number at mid : ℕ} (head : Option (ℕ × ℕ)) → NumberRead s at number mid → Says number head
+      → Reads (FieldRead entry s at) (head_step entry s mid head)
   unfolding Says field_bytes field_fault place_blank
-  head-step-form entry Unknown read says = tt
-  head-step-form entry {at = at} {mid = mid} (Known kind state) read says =
-      picked (FieldForm entry s at) (eqb state defined)
+  head-step-form entry None read says = tt
+  head-step-form entry {at = at} {mid = mid} (Some (kind, state)) read says =
+      picked (Reads (FieldRead entry s at)) (eqb state defined)
       (λ d. let none : state ≡ defined = eqb-true state defined d in
       value-form entry kind at mid (rw (says.0, none) at read.took) (rw none at says.1))
-      (λ d. picked (FieldForm entry s at) entry (λ e. tt)
+      (λ d. picked (Reads (FieldRead entry s at)) entry (λ e. tt)
       (λ e. record { took = rw (d, append-nil) (rw says.0 at read.took); sound = rw (says.1 0, d, e); blank = rw d }))
 
-  field-form : (entry : Bool) (at : ℕ) → FieldForm entry s at (field_at entry s at)
+  field-form : (entry : Bool) (at : ℕ) → Reads (FieldRead entry s at) (field_at entry s at)
   unfolding field_at
   field-form entry at =
-      let read = read_number s at in
-      reads-onward (FieldForm entry s at) read.next no_field (number-form at)
-      (λ mid head. head-step-form entry (head_of read.value) head (head-says read.value))
-      (λ refusal. tt)
+      reads-onward (FieldRead entry s at) (read_number s at) _ (number-form at)
+      (λ head mid read. head-step-form entry (head_of head) read (head-says head))
 
-  fields-form : (entry : Bool) (count at : ℕ) → FieldsForm entry count s at (fields_at entry count s at)
+  fields-form : (entry : Bool) (count at : ℕ) → Reads (FieldsRead entry count s at) (fields_at entry count s at)
   unfolding fields_at fields_bytes fields_fault rest_from
   fields-form entry zero at = record { took = took-none; counted = refl; sound = refl; blank = blanks-rest }
   fields-form entry (suc count) at =
-      let first = field_at entry s at in
-      reads-onward (FieldsForm entry (suc count) s at) first.next no_fields (field-form entry at)
-      (λ mid field.
-      let more = fields_at entry count s mid in
-      reads-map more.next (fields-form entry count mid)
-      (λ next fields. record {
+      reads-onward (FieldsRead entry (suc count) s at) (field_at entry s at) _ (field-form entry at)
+      (λ one mid field. reads-onward (FieldsRead entry (suc count) s at) (fields_at entry count s mid) _ (fields-form entry count mid)
+      (λ more next fields. record {
         took = took-both field.took fields.took;
         counted = ap suc fields.counted;
         sound = rw (field.sound, fields.sound);
         blank = λ n. rw (field.blank, fields.blank n);
       }))
-      (λ refusal. tt)
 
-  tuple-form : (entry : Bool) (at : ℕ) → PartForm true entry s at (tuple_at entry s at)
+  tuple-form : (entry : Bool) (at : ℕ) → Reads (PartRead true entry s at) (tuple_at entry s at)
   unfolding tuple_at
   tuple-form entry at =
-      let count = read_number s at in
-      reads-onward (PartForm true entry s at) count.next no_tuple (number-form at)
-      (λ mid number. picked (PartForm true entry s at) (leb 1 count.value && leb count.value places)
-      (λ e. let read = fields_at entry count.value s mid in
-      reads-onward (PartForm true entry s at) read.next no_tuple (fields-form entry count.value mid)
-      (λ next fields. tuple-read e number fields)
-      (λ refusal. tt))
+      reads-onward (PartRead true entry s at) (read_number s at) _ (number-form at)
+      (λ count mid number. picked (Reads (PartRead true entry s at)) (leb 1 count && leb count places)
+      (λ e. reads-onward (PartRead true entry s at) (fields_at entry count s mid) _ (fields-form entry count mid)
+      (λ fields next read. tuple-read e number read))
       (λ e. tt))
-      (λ refusal. tt)
 
-  part-form : (used entry : Bool) (at : ℕ) → PartForm used entry s at (part_at used entry s at)
+  part-form : (used entry : Bool) (at : ℕ) → Reads (PartRead used entry s at) (part_at used entry s at)
   unfolding part_at part_bytes part_fault rest_blank
   part-form true entry at = tuple-form entry at
   part-form false entry at = record { took = took-none; six = refl; sound = record { fault = refl; rest = blanks-rest places } }
 
   parts-form : {process code at at₁ at₂ : ℕ} → process ≤ largest_process → leb out code && leb code cas ≡ true → NumberRead s at process at₁ → NumberRead s at₁ code at₂
-      → CallForm s at (parts_at process code s at₂)
+      → Reads (CallRead s at) (parts_at process code s at₂)
   unfolding parts_at
   parts-form {code = code} {at = at} {at₂ = at₂} few e first second =
-      let template = part_at (uses_template code) false s at₂ in
-      reads-onward (CallForm s at) template.next no_call (part-form (uses_template code) false at₂)
-      (λ at₃ third. let entry = part_at (uses_entry code) true s at₃ in
-      reads-onward (CallForm s at) entry.next no_call (part-form (uses_entry code) true at₃)
-      (λ next fourth. call-read few e first second third fourth)
-      (λ refusal. tt))
-      (λ refusal. tt)
+      reads-onward (CallRead s at) (part_at (uses_template code) false s at₂) _ (part-form (uses_template code) false at₂)
+      (λ template at₃ third. reads-onward (CallRead s at) (part_at (uses_entry code) true s at₃) _ (part-form (uses_entry code) true at₃)
+      (λ entry next fourth. call-read few e first second third fourth))
 
-  call-form : (at : ℕ) → CallForm s at (call_at s at)
+  call-form : (at : ℕ) → Reads (CallRead s at) (call_at s at)
   unfolding call_at body_at
   call-form at =
-      let process = read_number s at in
-      reads-onward (CallForm s at) process.next no_call (number-form at)
-      (λ at₁ first. picked (CallForm s at) (leb process.value largest_process)
-      (λ few. let code = read_number s at₁ in
-      reads-onward (CallForm s at) code.next no_call (number-form at₁)
-      (λ at₂ second. picked (CallForm s at) (is_code code.value)
-      (λ e. parts-form (leb-true process.value largest_process few) (code-known code.value e) first second)
+      reads-onward (CallRead s at) (read_number s at) _ (number-form at)
+      (λ process at₁ first. picked (Reads (CallRead s at)) (leb process largest_process)
+      (λ few. reads-onward (CallRead s at) (read_number s at₁) _ (number-form at₁)
+      (λ code at₂ second. picked (Reads (CallRead s at)) (is_code code)
+      (λ e. parts-form (leb-true process largest_process few) (code-known code e) first second)
+      (λ e. tt)))
       (λ e. tt))
-      (λ refusal. tt))
-      (λ e. tt))
-      (λ refusal. tt)
 
 pub only-form : OnlyForm
-only-form s at next call bytes e = subst (CallForm s at) e (call-form s bytes at)
+only-form s at next call bytes e = subst (Reads (CallRead s at)) e (call-form s bytes at)
 
 -- ---- the only one
 

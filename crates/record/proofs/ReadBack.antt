@@ -10,20 +10,17 @@ use lib.Seq.{drop-drop, drop-append_seam}
 use lib.Dec.{leb}
 use borrow.Author.Tests.{le-leb, eqb-true}
 use borrow.Table.Steps.{cases}
-use Rattle.record.specs.declared.head.Head.TheVariants.{Known}
-use Rattle.record.specs.declared.reader.ReadCall.{ReadCall}
-use Rattle.record.specs.declared.writer.Recorded.{Recorded}
-use Rattle.record.specs.declared.writer.Recorded.TheVariants.{Length, Unwritten}
+use Rattle.std.specs.Prelude.{Err, Ok, Result, Some}
+use Rattle.tuple.specs.Refusals.{Verdict}
+use Rattle.tuple.specs.declared.refusal.Refusal.{Refusal}
 use Rattle.record.specs.Heads.{head_number}
-use Rattle.record.specs.Reading.{place, number_step, read_number, value_at, head_step, field_at, fields_at, tuple_at, part_at, parts_at, is_code, body_at, call_at}
+use Rattle.record.specs.Reading.{Reading, taken, number_step, read_number, value_at, head_step, field_at, fields_at, tuple_at, part_at, parts_at, is_code, body_at, call_at}
 use Rattle.record.specs.Writing.{field_bytes, fields_bytes, tuple_bytes, part_bytes, call_bytes, room_step, written_of, left_of}
 use Rattle.record.specs.Laws.{ReadBack, WrittenBack}
 use Rattle.record.proofs.HeadLaws.{head-of}
 use Rattle.record.proofs.NumberLaws.{kind-most}
 use Rattle.tuple.proofs.Blanks.{rest-blank, blank-tuple}
 use Rattle.tuple.proofs.NoFault.{known-head, PassedField, fields-sound, tuple-sound, PassedPart, call-sound}
-use Rattle.tuple.specs.declared.fault.Fault.{Fault}
-use Rattle.tuple.specs.declared.fault.Fault.TheVariants.{Absent, Present}
 use Rattle.tuple.specs.declared.field.Field.{Field}
 use Rattle.tuple.specs.declared.field.Tuple.{Tuple}
 use Rattle.tuple.specs.declared.field.Call.{Call}
@@ -42,22 +39,22 @@ parts s a b rest at e =
     (front, sym (drop-drop (length a) at s) ∙ ap (drop (length a)) front ∙ drop-append_seam a (b ++ rest))
 
 pub number-back : (s rest : List ℕ) (at value : ℕ) → value ≤ largest → drop at s ≡ bytes_of value ++ rest
-    → read_number s at ≡ record { next = place (at + width_of value); value = value }
+    → read_number s at ≡ taken value (at + width_of value)
 unfolding read_number
 number-back s rest at value h e = ap number_step (varint.read_back s rest at value h e)
 
 -- ---- a field
 
 value-back : (kind value : ℕ) (s rest : List ℕ) (at : ℕ) → value ≤ largest_of kind → drop at s ≡ bytes_of value ++ rest
-    → value_at kind s at ≡ record { next = place (at + width_of value); field = record { kind = kind; state = defined; value = value } }
+    → value_at kind s at ≡ taken (record { kind = kind; state = defined; value = value }) (at + width_of value)
 unfolding value_at
 value-back kind value s rest at h e =
     rw (number-back s rest at value (omega (arith, kind-most kind)) e, le-leb value (largest_of kind) h)
 
 module _ (entry : Bool) (field : Field) (sound : PassedField entry field) (blank : place_blank field true ≡ true) where
   head-step-back : (s rest : List ℕ) (at : ℕ) → drop at s ≡ cond (is_defined field) (bytes_of field.value) [] ++ rest
-      → head_step entry s at (Known field.kind field.state)
-      ≡ record { next = place (at + length (cond (is_defined field) (bytes_of field.value) [])); field = field }
+      → head_step entry s at (Some (field.kind, field.state))
+      ≡ taken field (at + length (cond (is_defined field) (bytes_of field.value) []))
   unfolding place_blank
   head-step-back s rest at e =
       cases (is_defined field)
@@ -65,7 +62,7 @@ module _ (entry : Bool) (field : Field) (sound : PassedField entry field) (blank
       (λ d. rw (d, sound.shaped d, add-zero, eqb-true field.value 0 (rw d at blank)))
 
   field_back : (s rest : List ℕ) (at : ℕ) → drop at s ≡ field_bytes field ++ rest
-      → field_at entry s at ≡ record { next = place (at + length (field_bytes field)); field = field }
+      → field_at entry s at ≡ taken field (at + length (field_bytes field))
   unfolding field_at field_bytes
   field_back s rest at e =
       let known = known-head field sound.known in
@@ -77,9 +74,9 @@ module _ (entry : Bool) (field : Field) (sound : PassedField entry field) (blank
 
 -- ---- a tuple
 
-fields_back : (entry : Bool) (count : ℕ) (fields : List Field) → count ≤ length fields → fields_fault entry (take count fields) ≡ Absent → rest_from count fields ≡ true
+fields_back : (entry : Bool) (count : ℕ) (fields : List Field) → count ≤ length fields → fields_fault entry (take count fields) ≡ Ok tt → rest_from count fields ≡ true
     → (s rest : List ℕ) (at : ℕ) → drop at s ≡ fields_bytes (take count fields) ++ rest
-    → fields_at entry count s at ≡ record { next = place (at + length (fields_bytes (take count fields))); fields = take count fields }
+    → fields_at entry count s at ≡ taken (take count fields) (at + length (fields_bytes (take count fields)))
 unfolding fields_at fields_bytes rest_from
 fields_back entry zero fields few sound blank s rest at e = rw add-zero
 fields_back entry (suc count) [] few sound blank s rest at e = absurd (omega arith)
@@ -94,9 +91,9 @@ fields_back entry (suc count) (field ∷ fields) few sound blank s rest at e =
     )
     (rw (length-append, add_assoc))
 
-tuple-back : (entry : Bool) (tuple : Tuple) → length tuple.fields ≡ places → tuple_fault entry tuple ≡ Absent → rest_from tuple.count tuple.fields ≡ true
+tuple-back : (entry : Bool) (tuple : Tuple) → length tuple.fields ≡ places → tuple_fault entry tuple ≡ Ok tt → rest_from tuple.count tuple.fields ≡ true
     → (s rest : List ℕ) (at : ℕ) → drop at s ≡ tuple_bytes tuple ++ rest
-    → tuple_at entry s at ≡ record { next = place (at + length (tuple_bytes tuple)); tuple = tuple }
+    → tuple_at entry s at ≡ taken tuple (at + length (tuple_bytes tuple))
 unfolding tuple_at tuple_bytes
 tuple-back entry tuple six h blank s rest at e =
     let sound = tuple-sound entry tuple h in
@@ -115,10 +112,10 @@ tuple-back entry tuple six h blank s rest at e =
 
 part-back : (used entry : Bool) (tuple : Tuple) → length tuple.fields ≡ places → PassedPart used entry tuple
     → (s rest : List ℕ) (at : ℕ) → drop at s ≡ part_bytes used tuple ++ rest
-    → part_at used entry s at ≡ record { next = place (at + length (part_bytes used tuple)); tuple = tuple }
+    → part_at used entry s at ≡ taken tuple (at + length (part_bytes used tuple))
 unfolding part_fault rest_blank part_at part_bytes
 part-back true entry tuple six sound s rest at e = tuple-back entry tuple six sound.fault sound.rest s rest at e
-part-back false entry tuple six sound s rest at e = λ i. record { next = place (sym (add-zero at) i); tuple = blank-tuple tuple six sound.rest i }
+part-back false entry tuple six sound s rest at e = λ i. taken (blank-tuple tuple six sound.rest i) (sym (add-zero at) i)
 
 -- the reader takes each code from 1 to 4
 pub code-taken : (code : ℕ) → 1 ≤ code → code ≤ 4 → is_code code ≡ true
@@ -153,13 +150,13 @@ read_back call s rest at typed h e =
 -- ---- what the writer leaves
 
 -- it took the call: it has no fault, and the length is the record's
-took : (call : Call) (room n : ℕ) (fault : Fault) → room_step call room fault ≡ Length n → (fault ≡ Absent) × (length (call_bytes call) ≡ n)
-took call room n (Present why) e = let z : ◌≡◌ {A = ℕ} 0 1 = cc in absurd (omega arith)
-took call room n Absent e = (
+took : (call : Call) (room n : ℕ) (fault : Verdict) → room_step call room fault ≡ Ok n → (fault ≡ Ok tt) × (length (call_bytes call) ≡ n)
+took call room n (Err why) e = let z : ◌≡◌ {A = ℕ} 0 1 = cc in absurd (omega arith)
+took call room n (Ok _) e = (
   refl,
   cases (leb (length (call_bytes call)) room)
-      (λ fits. let whole : ◌≡◌ {A = Recorded} (Length (length (call_bytes call))) (Length n) = rw fits at e in cc)
-      (λ full. let none : ◌≡◌ {A = Recorded} (Unwritten (refusal 10)) (Length n) = rw full at e in let z : ◌≡◌ {A = ℕ} 0 1 = cc in absurd (omega arith)),
+      (λ fits. let whole : ◌≡◌ {A = (Result ℕ Refusal)} (Ok (length (call_bytes call))) (Ok n) = rw fits at e in cc)
+      (λ full. let none : ◌≡◌ {A = (Result ℕ Refusal)} (Err (refusal 10)) (Ok n) = rw full at e in let z : ◌≡◌ {A = ℕ} 0 1 = cc in absurd (omega arith)),
 )
 
 pub written_back : WrittenBack
@@ -168,4 +165,4 @@ written_back call buffer n typed e =
     let sound = took call (length buffer) n (call_fault call) e in
     rw e
     (read_back call (call_bytes call ++ drop n buffer) (drop n buffer) 0 typed sound.0 refl
-    ∙ ap {B = ReadCall} (λ (k : ℕ). record { next = place k; call = call }) (omega (arith, sound.1)))
+    ∙ ap {B = Reading Call} (taken call) (omega (arith, sound.1)))

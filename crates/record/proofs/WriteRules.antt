@@ -8,12 +8,11 @@ use lib.ListN.{length, drop}
 use lib.Dec.{leb}
 use borrow.Author.Tests.{leb-true, leb-false}
 use borrow.Table.Steps.{cases}
-use Rattle.record.specs.declared.writer.Recorded.TheVariants.{Length}
+use Rattle.std.specs.Prelude.{Err, Ok}
+use Rattle.tuple.specs.Refusals.{Verdict}
 use Rattle.record.specs.Laws.{written_refusal, Stored, WriteRule, WriteRules}
 use Rattle.record.specs.Writing.{Typed, call_bytes, written_of, left_of}
 use Rattle.record.proofs.WrittenLaws.{replaced, written-fault, written-full, written-whole}
-use Rattle.tuple.specs.declared.fault.Fault.{Fault}
-use Rattle.tuple.specs.declared.fault.Fault.TheVariants.{Absent, Present}
 use Rattle.tuple.specs.declared.field.Field.{Field}
 use Rattle.tuple.specs.declared.field.Tuple.{Tuple}
 use Rattle.tuple.specs.declared.field.Call.{Call}
@@ -46,59 +45,59 @@ call-three r (in-template q has why) = tuple-three r why
 call-three r (in_entry q template has why) = tuple-three r why
 call-three r (not-zero parts some) = (omega arith, omega arith)
 
-fault-three : (call : Call) → Typed call → (why : Refusal) → call_fault call ≡ Present why → ThreeToFive (number_of why)
+fault-three : (call : Call) → Typed call → (why : Refusal) → call_fault call ≡ Err why → ThreeToFive (number_of why)
 fault-three call typed why e = call-three (number_of why) (((fault-rules call typed.template typed.entry).some why).0 e)
 
 -- ---- the rule, by fault and room
 
-abbrev is_there : Fault → ℕ
-is_there Absent = 0
-is_there (Present why) = 1
+abbrev is_there : Verdict → ℕ
+is_there (Ok _) = 0
+is_there (Err why) = 1
 
 module _ (call : Call) (buffer : List ℕ) (typed : Typed call) where
-  stored : (n : ℕ) → written_of call (length buffer) ≡ Length n → n ≡ length (call_bytes call) → n ≤ length buffer → Stored call buffer n
+  stored : (n : ℕ) → written_of call (length buffer) ≡ Ok n → n ≡ length (call_bytes call) → n ≤ length buffer → Stored call buffer n
   unfolding left_of
   stored n e same fits =
       let left : left_of call buffer ≡ call_bytes call ++ drop n buffer = rw e in
       let parts = replaced (call_bytes call) buffer n same fits in
       record { bytes = rw left parts.0; behind = rw left parts.1; whole = rw left parts.2 }
 
-  rule-fault : (why : Refusal) → call_fault call ≡ Present why → WriteRule call buffer
+  rule-fault : (why : Refusal) → call_fault call ≡ Err why → WriteRule call buffer
   rule-fault why e =
       let w = written-fault call buffer why e in
       let three = fault-three call typed why e in
       let number : number_of why ≡ written_refusal (written_of call (length buffer)) = ap written_refusal w.0 in
       record {
         fault = λ what h. let small = fault-three call typed what h in (sym (written-fault call buffer what h).0, small.0, small.1);
-        no_room = (λ ten. absurd (omega (arith, three.1, number, ten)), λ h. let z : Absent ≡ Present why = sym h.0 ∙ e in absurd (omega (arith, ap is_there z)));
+        no_room = (λ ten. absurd (omega (arith, three.1, number, ten)), λ h. let z : (Ok tt) ≡ Err why = sym h.0 ∙ e in absurd (omega (arith, ap is_there z)));
         kept = λ h. sym w.1;
         stored = λ n h. let z : ◌≡◌ {A = ℕ} 0 1 = cc in absurd (omega arith);
       }
 
-  rule-full : call_fault call ≡ Absent → length buffer < length (call_bytes call) → WriteRule call buffer
+  rule-full : call_fault call ≡ Ok tt → length buffer < length (call_bytes call) → WriteRule call buffer
   rule-full e full =
       let w = written-full call buffer e full in
       record {
-        fault = λ what h. let z : Absent ≡ Present what = sym e ∙ h in absurd (omega (arith, ap is_there z));
+        fault = λ what h. let z : (Ok tt) ≡ Err what = sym e ∙ h in absurd (omega (arith, ap is_there z));
         no_room = (λ ten. (e, full), λ h. sym (ap written_refusal w.0));
         kept = λ h. sym w.1;
         stored = λ n h. let z : ◌≡◌ {A = ℕ} 0 1 = cc in absurd (omega arith);
       }
 
-  rule-whole : call_fault call ≡ Absent → length (call_bytes call) ≤ length buffer → WriteRule call buffer
+  rule-whole : call_fault call ≡ Ok tt → length (call_bytes call) ≤ length buffer → WriteRule call buffer
   rule-whole e fits =
       let w = written-whole call buffer e fits in
       let none : 0 ≡ written_refusal (written_of call (length buffer)) = ap written_refusal w.0 in
       record {
-        fault = λ what h. let z : Absent ≡ Present what = sym e ∙ h in absurd (omega (arith, ap is_there z));
+        fault = λ what h. let z : (Ok tt) ≡ Err what = sym e ∙ h in absurd (omega (arith, ap is_there z));
         no_room = (λ ten. absurd (omega (arith, none, ten)), λ h. absurd (omega (arith, h.1)));
         kept = λ h. absurd (h (sym none));
         stored = λ n h. let same : n ≡ length (call_bytes call) = cc in stored n h same (omega arith);
       }
 
-  rule-of : (fault : Fault) → call_fault call ≡ fault → WriteRule call buffer
-  rule-of (Present why) e = rule-fault why e
-  rule-of Absent e =
+  rule-of : (fault : Verdict) → call_fault call ≡ fault → WriteRule call buffer
+  rule-of (Err why) e = rule-fault why e
+  rule-of (Ok _) e =
       cases (leb (length (call_bytes call)) (length buffer)) (λ fits. rule-whole e (leb-true _ _ fits)) (λ full. rule-full e (leb-false _ _ full))
 
 pub write-rules : WriteRules

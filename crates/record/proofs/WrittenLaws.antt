@@ -1,20 +1,20 @@
 -- The laws of bytes written one behind the other, which the writer's functions cite: runs of stores join, and how long each part may be.
-use mathlib.Core.Path.{◌≡◌, refl, sym, ap, ◌∙◌}
+use mathlib.Core.Path.{◌≡◌, refl, sym, ap, ◌∙◌, subst}
 use Prim.Native.Nat.{ℕ, zero, suc, ◌+◌, ◌*◌, ◌≤◌, ◌<◌}
 use native.Mathlib.Omega.{arith}
+use native.Mathlib.Numerals.{add-one}
 use mathlib.Core.Bool.{Bool, true, false, cond, false≢true}
 use mathlib.Core.List.{List, [], ◌∷◌, ◌++◌, append-nil}
-use lib.ListN.{length, take, drop, get_or, set, length-append, length-take, length-drop}
-use lib.Seq.{sets, sets-eq, length-sets, get_or-take, take-append_seam, drop-append_seam}
+use lib.ListN.{length, take, drop, get_or, set, length-append, length-take, length-drop, drop_of_length-le}
+use lib.Seq.{sets, sets-eq, length-sets, get_or-take, take-append_seam, drop-append_seam, drop-cons}
 use borrow.Author.Tests.{le-leb, lt-leb}
-use Rattle.record.specs.declared.writer.Recorded.TheVariants.{Length, Unwritten}
+use Rattle.std.specs.Prelude.{Err, Ok}
 use Rattle.record.specs.Heads.{head_number}
 use Rattle.record.specs.Writing.{field_bytes, fields_bytes, tuple_bytes, part_bytes, call_bytes, room_step, written_of, buffer_step, left_of}
 use Rattle.record.specs.Private.{WritableField, WritablePart, WritableCall}
 use Rattle.record.proofs.NumberLaws.{kind-most}
 use Rattle.tuple.proofs.NoFault.{known-head, fields-sound, tuple-sound, PassedPart, call-sound}
 use Rattle.varint.proofs.ReadingLaws.{picked}
-use Rattle.tuple.specs.declared.fault.Fault.TheVariants.{Absent, Present}
 use Rattle.tuple.specs.declared.field.Field.{Field}
 use Rattle.tuple.specs.declared.field.Tuple.{Tuple}
 use Rattle.tuple.specs.declared.field.Call.{Call}
@@ -24,8 +24,9 @@ use Rattle.tuple.specs.Bounds.{places}
 use Rattle.tuple.specs.Fields.{blank_field}
 use Rattle.tuple.specs.Faults.{is_defined, fields_fault, part_fault, uses_template, uses_entry, call_fault}
 use Rattle.tuple.proofs.Lists.{drop-take-step, drop-take-end}
-use Rattle.varint.specs.Writing.{bytes_of, width_of}
-use Rattle.varint.proofs.WritingLaws.{width-most}
+use Rattle.varint.specs.Reading.{largest}
+use Rattle.varint.specs.Writing.{bytes_of, width_of, written_at, left_at}
+use Rattle.varint.proofs.WritingLaws.{width-most, written_next}
 
 -- ---- stores
 
@@ -48,8 +49,18 @@ wrote_then before at t u {middle} {next} {between} first second = (
       ∙ sym (sets-append t u before at),
 )
 
+-- the bytes of a number are those of an equal one
+pub wrote_as : (before : List ℕ) (at : ℕ) {a b next : ℕ} {after : List ℕ} → a ≡ b → Wrote before at (bytes_of a) next after → Wrote before at (bytes_of b) next after
+wrote_as before at {next = next} {after = after} = subst (λ (n : ℕ). Wrote before at (bytes_of n) next after)
+
 pub wrote-length : (before : List ℕ) (at : ℕ) (t : List ℕ) {next : ℕ} {after : List ℕ} → Wrote before at t next after → length after ≡ length before
 wrote-length before at t wrote = ap length wrote.1 ∙ length-sets before at t
+
+-- a number that is held and has room is written
+pub number_written : (buffer : List ℕ) (at value : ℕ) → value ≤ largest → at + width_of value ≤ length buffer
+    → (written_at (length buffer) at value ≡ Ok (at + width_of value)) × (left_at buffer at value ≡ sets buffer at (bytes_of value))
+number_written buffer at value held fits =
+    let next = written_next buffer at value held fits in (sym next.0, sym next.1 ∙ sym (sets-eq (bytes_of value) buffer at fits))
 
 -- a buffer whose first n bytes were replaced begins with the new ones, and is as before behind them
 pub replaced : (bytes buffer : List ℕ) (n : ℕ) → n ≡ length bytes → n ≤ length buffer
@@ -80,7 +91,17 @@ pub tuple-length : (tuple : Tuple) → length (tuple_bytes tuple) ≡ width_of t
 unfolding tuple_bytes
 tuple-length tuple = length-append (bytes_of tuple.count) (fields_bytes (take tuple.count tuple.fields))
 
--- what is left of the fields from the place i on begins with the field there
+-- what is left of fields from the place i on begins with the field there, and behind the last nothing is left
+pub bytes-left : (fields : List Field) (i : ℕ) → i < length fields
+    → fields_bytes (drop i fields) ≡ field_bytes (get_or fields i blank_field) ++ fields_bytes (drop (i + 1) fields)
+unfolding fields_bytes
+bytes-left fields i inside = ap fields_bytes (drop-cons fields i blank_field inside) ∙ ap (λ (k : ℕ). fields_bytes (get_or fields i blank_field ∷ drop k fields)) (sym (add-one i))
+
+pub bytes-end : (fields : List Field) (i : ℕ) → length fields ≤ i → fields_bytes (drop i fields) ≡ []
+unfolding fields_bytes
+bytes-end fields i all = ap fields_bytes (drop_of_length-le fields {i = i} all)
+
+-- the same of the fields of a tuple
 pub fields-left : (tuple : Tuple) (i : ℕ) → length tuple.fields ≡ places → tuple.count ≤ places → i < tuple.count
     → fields_bytes (drop i (take tuple.count tuple.fields))
     ≡ field_bytes (get_or tuple.fields i blank_field) ++ fields_bytes (drop (i + 1) (take tuple.count tuple.fields))
@@ -122,7 +143,7 @@ part_length false tuple writable = omega arith
 
 -- ---- a call without fault is writable
 
-fields-writable : (entry : Bool) (fields : List Field) → fields_fault entry fields ≡ Absent → (i : ℕ) → WritableField (get_or fields i blank_field)
+fields-writable : (entry : Bool) (fields : List Field) → fields_fault entry fields ≡ Ok tt → (i : ℕ) → WritableField (get_or fields i blank_field)
 fields-writable entry [] h i = record { kind = omega arith; state = omega arith; value = λ d. omega arith }
 fields-writable entry (field ∷ fields) h zero =
     let sound = (fields-sound entry field fields h).0 in
@@ -140,7 +161,7 @@ part-writable true entry tuple sound e =
     }
 part-writable false entry tuple sound e = absurd (false≢true e)
 
-pub call-writable : (call : Call) → call_fault call ≡ Absent → WritableCall call
+pub call-writable : (call : Call) → call_fault call ≡ Ok tt → WritableCall call
 call-writable call h =
     let sound = call-sound call h in
     record { template = part-writable _ false call.template sound.template; entry = part-writable _ true call.entry sound.entry }
@@ -148,22 +169,22 @@ call-writable call h =
 -- ---- what writing a call answers and leaves, by its fault and the room
 
 module _ (call : Call) (buffer : List ℕ) where
-  pub written-fault : (refusal : Refusal) → call_fault call ≡ Present refusal → (Unwritten refusal ≡ written_of call (length buffer)) × (buffer ≡ left_of call buffer)
+  pub written-fault : (refusal : Refusal) → call_fault call ≡ Err refusal → (Err refusal ≡ written_of call (length buffer)) × (buffer ≡ left_of call buffer)
   unfolding written_of left_of
   written-fault refusal e =
-      let answer : Unwritten refusal ≡ written_of call (length buffer) = sym (ap (room_step call (length buffer)) e) in
+      let answer : Err refusal ≡ written_of call (length buffer) = sym (ap (room_step call (length buffer)) e) in
       (answer, ap (buffer_step call buffer) answer)
 
-  pub written-full : call_fault call ≡ Absent → length buffer < length (call_bytes call)
-      → (Unwritten NoRoom ≡ written_of call (length buffer)) × (buffer ≡ left_of call buffer)
+  pub written-full : call_fault call ≡ Ok tt → length buffer < length (call_bytes call)
+      → (Err NoRoom ≡ written_of call (length buffer)) × (buffer ≡ left_of call buffer)
   unfolding written_of left_of
   written-full e full = (
     rw (e, lt-leb (length (call_bytes call)) (length buffer) full),
     rw (e, lt-leb (length (call_bytes call)) (length buffer) full),
   )
 
-  pub written-whole : call_fault call ≡ Absent → length (call_bytes call) ≤ length buffer
-      → (Length (length (call_bytes call)) ≡ written_of call (length buffer)) × (sets buffer 0 (call_bytes call) ≡ left_of call buffer)
+  pub written-whole : call_fault call ≡ Ok tt → length (call_bytes call) ≤ length buffer
+      → (Ok (length (call_bytes call)) ≡ written_of call (length buffer)) × (sets buffer 0 (call_bytes call) ≡ left_of call buffer)
   unfolding written_of left_of
   written-whole e fits =
       let none : 0 + length (call_bytes call) ≡ length (call_bytes call) = omega arith in (

@@ -1,28 +1,20 @@
 -- Document 01, "Edge values": the starred rows, as one table with one claim. With them those of request 2.10, which moves FF FF FF FF 10: numbers of ten
 -- bytes, what is refused at ten, the least number that is not written, and the largest process of a record and the one above it; and a record of a cas.
-use Rattle.std.specs.Prelude.{◌≡◌, ℕ, List, [], ◌∷◌, ◌++◌, map, length, get_or, replicate, pos, negsuc}
-use Rattle.record.specs.declared.reader.Next.{Next}
-use Rattle.record.specs.declared.reader.Next.TheVariants.{At, Refused}
-use Rattle.record.specs.declared.writer.Recorded.{Recorded}
-use Rattle.record.specs.declared.writer.Recorded.TheVariants.{Length, Unwritten}
-use Rattle.record.specs.Reading.{call_at}
+use Rattle.std.specs.Prelude.{◌≡◌, ℕ, List, [], ◌∷◌, ◌++◌, map, length, get_or, replicate, pos, negsuc, Err, Ok, Result}
+use Rattle.varint.specs.Reading.{Read}
+use Rattle.varint.specs.Writing.{Written}
+use Rattle.varint.specs.declared.ReadError.TheVariants.{Cut, Overlong}
+use Rattle.varint.specs.declared.WriteError.TheVariants.{Beyond, NoRoom}
+use Rattle.record.specs.Reading.{Reading, call_at}
 use Rattle.record.specs.Writing.{written_of, left_of}
 use Rattle.tuple.specs.declared.field.Field.{Field}
 use Rattle.tuple.specs.declared.field.Tuple.{Tuple}
 use Rattle.tuple.specs.declared.field.Call.{Call}
-use Rattle.tuple.specs.declared.offset.Coded.{Coded}
-use Rattle.tuple.specs.declared.offset.Coded.TheVariants.{Code, OutOfRange}
-use Rattle.tuple.specs.declared.offset.Decoded.{Decoded}
-use Rattle.tuple.specs.declared.offset.Decoded.TheVariants.{Means, NoOffset}
 use Rattle.tuple.specs.declared.offset.Offset.{Offset}
 use Rattle.tuple.specs.declared.offset.Offset.TheVariants.{Bottom, Hundredths}
 use Rattle.tuple.specs.declared.refusal.Refusal.{Refusal}
 use Rattle.tuple.specs.Offsets.{offset_of, coded_of, decoded_of}
 use Rattle.tuple.specs.Refusals.{number_of}
-use Rattle.varint.specs.declared.Number.{Number}
-use Rattle.varint.specs.declared.Number.TheVariants.{Value, Cut, Overlong}
-use Rattle.varint.specs.declared.Written.{Written}
-use Rattle.varint.specs.declared.Written.TheVariants.{Next as Stored, Beyond, NoRoom}
 use Rattle.varint.specs.Reading.{number_refusal, number_at}
 use Rattle.varint.specs.Writing.{bytes_of, written_refusal, written_at, left_at}
 
@@ -137,24 +129,24 @@ pub record Seen : Type 0 where
 -- ---- what the definitions say of what is written; `room` is how long the buffer is
 
 abbrev pub number_wrote : ℕ → ℕ → Written → Wrote
-number_wrote room value (Stored next) = stored next (left_at (replicate room 0) 0 value)
-number_wrote room value Beyond = unwritten (written_refusal Beyond)
-number_wrote room value NoRoom = unwritten (written_refusal NoRoom)
+number_wrote room value (Ok next) = stored next (left_at (replicate room 0) 0 value)
+number_wrote room value (Err Beyond) = unwritten (written_refusal (Err Beyond))
+number_wrote room value (Err NoRoom) = unwritten (written_refusal (Err NoRoom))
 
 abbrev pub number_sent : ℕ → ℕ → Wrote
 number_sent room value = number_wrote room value (written_at room 0 value)
 
-abbrev pub call_wrote : ℕ → Call → Recorded → Wrote
-call_wrote room c (Length n) = stored n (left_of c (replicate room 0))
-call_wrote room c (Unwritten why) = unwritten (number_of why)
+abbrev pub call_wrote : ℕ → Call → Result ℕ Refusal → Wrote
+call_wrote room c (Ok n) = stored n (left_of c (replicate room 0))
+call_wrote room c (Err why) = unwritten (number_of why)
 
 abbrev pub call_sent : ℕ → Call → Wrote
 call_sent room c = call_wrote room c (written_of c room)
 
 -- from the offset: its code, as the value of the one field of a record
-abbrev pub offset_sent : ℕ → Coded → Wrote
-offset_sent room (Code code) = call_sent room (out_of code)
-offset_sent room (OutOfRange why) = unwritten (number_of why)
+abbrev pub offset_sent : ℕ → Result ℕ Refusal → Wrote
+offset_sent room (Ok code) = call_sent room (out_of code)
+offset_sent room (Err why) = unwritten (number_of why)
 
 abbrev pub sent_of : Meaning → List ℕ → Wrote
 sent_of (number value) bytes = number_sent (length bytes) value
@@ -170,34 +162,34 @@ sent_of (above value n) bytes = number_sent (length bytes) value
 abbrev pub unread : Meaning → Wrote → Seen
 unread meaning sent = record { meaning = meaning; taken = 0; again = nothing; sent = sent }
 
-abbrev pub number_seen : Wrote → Number → Seen
-number_seen sent (Value value next) = record { meaning = number value; taken = next; again = number_sent next value; sent = sent }
-number_seen sent Cut = unread (refused (number_refusal Cut)) sent
-number_seen sent Overlong = unread (refused (number_refusal Overlong)) sent
+abbrev pub number_seen : Wrote → Read → Seen
+number_seen sent (Ok (value, next)) = record { meaning = number value; taken = next; again = number_sent next value; sent = sent }
+number_seen sent (Err Cut) = unread (refused (number_refusal (Err Cut))) sent
+number_seen sent (Err Overlong) = unread (refused (number_refusal (Err Overlong))) sent
 
-abbrev pub offset_meaning : Decoded → Meaning
-offset_meaning (Means o) = signed o
-offset_meaning (NoOffset why) = refused (number_of why)
+abbrev pub offset_meaning : Result Offset Refusal → Meaning
+offset_meaning (Ok o) = signed o
+offset_meaning (Err why) = refused (number_of why)
 
 -- a value that is refused: the offset that it would be, if it is a number
-abbrev pub refused_meaning : Number → Refusal → Meaning
-refused_meaning (Value code next) why = outside (offset_of code) (number_of why)
-refused_meaning Cut why = refused (number_of why)
-refused_meaning Overlong why = refused (number_of why)
+abbrev pub refused_meaning : Read → Refusal → Meaning
+refused_meaning (Ok (code, next)) why = outside (offset_of code) (number_of why)
+refused_meaning (Err Cut) why = refused (number_of why)
+refused_meaning (Err Overlong) why = refused (number_of why)
 
-abbrev pub field_seen : List ℕ → Wrote → Call → Next → Seen
-field_seen bytes sent c (At cursor) =
+abbrev pub field_seen : List ℕ → Wrote → Reading Call → Seen
+field_seen bytes sent (Ok (c, cursor)) =
     record { meaning = offset_meaning (decoded_of (get_or c.entry.fields 0 zeros).value); taken = cursor.at; again = call_sent cursor.at c; sent = sent }
-field_seen bytes sent c (Refused why) = unread (refused_meaning (number_at bytes 0) why) sent
+field_seen bytes sent (Err why) = unread (refused_meaning (number_at bytes 0) why) sent
 
-abbrev pub whole_seen : Wrote → Call → Next → Seen
-whole_seen sent c (At cursor) = record { meaning = call c; taken = cursor.at; again = call_sent cursor.at c; sent = sent }
-whole_seen sent c (Refused why) = unread (refused (number_of why)) sent
+abbrev pub whole_seen : Wrote → Reading Call → Seen
+whole_seen sent (Ok (c, cursor)) = record { meaning = call c; taken = cursor.at; again = call_sent cursor.at c; sent = sent }
+whole_seen sent (Err why) = unread (refused (number_of why)) sent
 
 abbrev pub seen_at : Place → List ℕ → Wrote → Seen
 seen_at bare bytes sent = number_seen sent (number_at bytes 0)
-seen_at field bytes sent = let read = call_at (ahead ++ bytes) 0 in field_seen bytes sent read.call read.next
-seen_at whole bytes sent = let read = call_at bytes 0 in whole_seen sent read.call read.next
+seen_at field bytes sent = field_seen bytes sent (call_at (ahead ++ bytes) 0)
+seen_at whole bytes sent = whole_seen sent (call_at bytes 0)
 
 unfoldable pub seen : Row → Seen
 seen row = seen_at row.place row.bytes (sent_of row.meaning row.bytes)

@@ -1,13 +1,8 @@
 -- The laws of records, as claims over the definitions.
-use Rattle.std.specs.Prelude.{◌≡◌, ◌↔◌, ℕ, ◌+◌, ◌-◌, ◌*◌, ◌≤◌, ◌<◌, cond, List, [], ◌∷◌, ◌++◌, length, take, drop}
-use Rattle.record.specs.declared.head.Head.TheVariants.{Known, Unknown}
-use Rattle.record.specs.declared.reader.Next.TheVariants.{Refused}
-use Rattle.record.specs.declared.writer.Recorded.{Recorded}
-use Rattle.record.specs.declared.writer.Recorded.TheVariants.{Length, Unwritten}
+use Rattle.std.specs.Prelude.{◌≡◌, ◌↔◌, ℕ, ◌+◌, ◌-◌, ◌*◌, ◌≤◌, ◌<◌, cond, List, [], ◌∷◌, ◌++◌, length, take, drop, Err, None, Ok, Result, Some}
 use Rattle.record.specs.Heads.{head_number, head_of}
-use Rattle.record.specs.Reading.{place, call_at}
+use Rattle.record.specs.Reading.{place, behind, call_at}
 use Rattle.record.specs.Writing.{call_bytes, written_of, left_of, Typed}
-use Rattle.tuple.specs.declared.fault.Fault.TheVariants.{Absent, Present}
 use Rattle.tuple.specs.declared.field.Field.{Field}
 use Rattle.tuple.specs.declared.field.Tuple.{Tuple}
 use Rattle.tuple.specs.declared.field.Call.{Call}
@@ -24,13 +19,13 @@ use Rattle.varint.specs.Writing.{bytes_of}
 -- a head is 4 × kind + state, the kind word 1, count 2, offset 3 or seats 4, the state given 0, any 1 or open 2; there are these twelve, and no other
 pub record HeadRule : Type 0 where
   pub number : (f : Field) → head_number f ≡ 4 * f.kind + f.state
-  pub word : (head_of 4 ≡ Known 1 0) × (head_of 5 ≡ Known 1 1) × (head_of 6 ≡ Known 1 2)
-  pub count : (head_of 8 ≡ Known 2 0) × (head_of 9 ≡ Known 2 1) × (head_of 10 ≡ Known 2 2)
-  pub offset : (head_of 12 ≡ Known 3 0) × (head_of 13 ≡ Known 3 1) × (head_of 14 ≡ Known 3 2)
-  pub seats : (head_of 16 ≡ Known 4 0) × (head_of 17 ≡ Known 4 1) × (head_of 18 ≡ Known 4 2)
-  pub below : (number : ℕ) → number < 4 → head_of number ≡ Unknown
-  pub between : (head_of 7 ≡ Unknown) × (head_of 11 ≡ Unknown) × (head_of 15 ≡ Unknown)
-  pub above : (number : ℕ) → 18 < number → head_of number ≡ Unknown
+  pub word : (head_of 4 ≡ Some (1, 0)) × (head_of 5 ≡ Some (1, 1)) × (head_of 6 ≡ Some (1, 2))
+  pub count : (head_of 8 ≡ Some (2, 0)) × (head_of 9 ≡ Some (2, 1)) × (head_of 10 ≡ Some (2, 2))
+  pub offset : (head_of 12 ≡ Some (3, 0)) × (head_of 13 ≡ Some (3, 1)) × (head_of 14 ≡ Some (3, 2))
+  pub seats : (head_of 16 ≡ Some (4, 0)) × (head_of 17 ≡ Some (4, 1)) × (head_of 18 ≡ Some (4, 2))
+  pub below : (number : ℕ) → number < 4 → head_of number ≡ None
+  pub between : (head_of 7 ≡ None) × (head_of 11 ≡ None) × (head_of 15 ≡ None)
+  pub above : (number : ℕ) → 18 < number → head_of number ≡ None
 
 -- ---- what is written, and what reads
 
@@ -39,27 +34,27 @@ abbrev pub ReadBack : Type 0
 ReadBack =
     (call : Call) (s rest : List ℕ) (at : ℕ)
     → Typed call
-    → call_fault call ≡ Absent
+    → call_fault call ≡ Ok tt
     → drop at s ≡ call_bytes call ++ rest
-    → call_at s at ≡ record { next = place (at + length (call_bytes call)); call = call }
+    → call_at s at ≡ Ok (call, place (at + length (call_bytes call)))
 
 -- the same of what the writer leaves in a buffer that it took
 abbrev pub WrittenBack : Type 0
 WrittenBack =
     (call : Call) (buffer : List ℕ) (n : ℕ)
     → Typed call
-    → written_of call (length buffer) ≡ Length n
-    → call_at (left_of call buffer) 0 ≡ record { next = place n; call = call }
+    → written_of call (length buffer) ≡ Ok n
+    → call_at (left_of call buffer) 0 ≡ Ok (call, place n)
 
 -- whatever reads as a call is byte for byte what is written for it, and that call has no fault
 pub record Read (s : List ℕ) (at next : ℕ) (call : Call) : Type 0 where
   pub typed : Typed call
-  pub sound : call_fault call ≡ Absent
+  pub sound : call_fault call ≡ Ok tt
   pub taken : next ≡ at + length (call_bytes call)
   pub bytes : drop at s ≡ call_bytes call ++ drop next s
 
 abbrev pub OnlyForm : Type 0
-OnlyForm = (s : List ℕ) (at next : ℕ) (call : Call) → Bytes s → call_at s at ≡ record { next = place next; call = call } → Read s at next call
+OnlyForm = (s : List ℕ) (at next : ℕ) (call : Call) → Bytes s → call_at s at ≡ Ok (call, place next) → Read s at next call
 
 -- two byte strings that read as one and the same call, each from a place of its own, are equal in what was read
 pub record SameBytes (s : List ℕ) (at next : ℕ) (s' : List ℕ) (at' next' : ℕ) : Type 0 where
@@ -72,8 +67,8 @@ OnlyOne =
     (call : Call) (s : List ℕ) (at next : ℕ) (s' : List ℕ) (at' next' : ℕ)
     → Bytes s
     → Bytes s'
-    → call_at s at ≡ record { next = place next; call = call }
-    → call_at s' at' ≡ record { next = place next'; call = call }
+    → call_at s at ≡ Ok (call, place next)
+    → call_at s' at' ≡ Ok (call, place next')
     → SameBytes s at next s' at' next'
 
 -- ---- reading, and the fault of a call that is handed in
@@ -98,8 +93,8 @@ pub record SayableCall (call : Call) : Type 0 where
 -- the bytes that a call's fields make, with anything behind them, are refused as the first fault of the parts that it uses, whatever its unused parts and
 -- the values of its fields; where there is none they are read to their end
 pub record OrderRule (call : Call) (s : List ℕ) (at : ℕ) : Type 0 where
-  pub refused : (why : Refusal) → used_fault call ≡ Present why → (call_at s at).next ≡ Refused why
-  pub taken : used_fault call ≡ Absent → (call_at s at).next ≡ place (at + length (call_bytes call))
+  pub refused : (why : Refusal) → used_fault call ≡ Err why → call_at s at ≡ Err why
+  pub taken : used_fault call ≡ Ok tt → behind (call_at s at) ≡ Ok (place (at + length (call_bytes call)))
 
 abbrev pub RecordOrder : Type 0
 RecordOrder = (call : Call) (s rest : List ℕ) (at : ℕ) → SayableCall call → drop at s ≡ call_bytes call ++ rest → OrderRule call s at
@@ -109,17 +104,17 @@ abbrev pub CutRecord : Type 0
 CutRecord =
     (call : Call) (s : List ℕ) (at n : ℕ)
     → Typed call
-    → used_fault call ≡ Absent
+    → used_fault call ≡ Ok tt
     → n < length (call_bytes call)
     → drop at s ≡ take n (call_bytes call)
-    → (call_at s at).next ≡ Refused (refusal 2)
+    → call_at s at ≡ Err (refusal 2)
 
 -- ---- writing
 
 -- 01's number of what the writer answers, 0 for a length
-abbrev pub written_refusal : Recorded → ℕ
-written_refusal (Length n) = 0
-written_refusal (Unwritten why) = number_of why
+abbrev pub written_refusal : Result ℕ Refusal → ℕ
+written_refusal (Ok n) = 0
+written_refusal (Err why) = number_of why
 
 -- a buffer that was written begins with the record, and no byte behind it has changed
 pub record Stored (call : Call) (buffer : List ℕ) (n : ℕ) : Type 0 where
@@ -130,21 +125,21 @@ pub record Stored (call : Call) (buffer : List ℕ) (n : ℕ) : Type 0 where
 -- writing: the call's own fault, 3 to 5, whatever the buffer; then 10, exactly when the buffer is shorter than the record; a refusal leaves every byte, and
 -- a length those behind the record
 pub record WriteRule (call : Call) (buffer : List ℕ) : Type 0 where
-  pub fault : (why : Refusal) → call_fault call ≡ Present why → (written_of call (length buffer) ≡ Unwritten why) × (3 ≤ number_of why) × (number_of why ≤ 5)
-  pub no_room : (written_refusal (written_of call (length buffer)) ≡ 10) ↔ ((call_fault call ≡ Absent) × (length buffer < length (call_bytes call)))
+  pub fault : (why : Refusal) → call_fault call ≡ Err why → (written_of call (length buffer) ≡ Err why) × (3 ≤ number_of why) × (number_of why ≤ 5)
+  pub no_room : (written_refusal (written_of call (length buffer)) ≡ 10) ↔ ((call_fault call ≡ Ok tt) × (length buffer < length (call_bytes call)))
   pub kept : (written_refusal (written_of call (length buffer)) ≡ 0 → ⊥) → left_of call buffer ≡ buffer
-  pub stored : (n : ℕ) → written_of call (length buffer) ≡ Length n → Stored call buffer n
+  pub stored : (n : ℕ) → written_of call (length buffer) ≡ Ok n → Stored call buffer n
 
 abbrev pub WriteRules : Type 0
 WriteRules = (call : Call) (buffer : List ℕ) → Typed call → WriteRule call buffer
 
 -- a record has at most 140 bytes
 abbrev pub AtMost : Type 0
-AtMost = (call : Call) → Typed call → call_fault call ≡ Absent → length (call_bytes call) ≤ 140
+AtMost = (call : Call) → Typed call → call_fault call ≡ Ok tt → length (call_bytes call) ≤ 140
 
 -- and one has exactly 140
 abbrev pub Attained : Type 0
-Attained = (call : Call) × Typed call × (call_fault call ≡ Absent) × (length (call_bytes call) ≡ 140)
+Attained = (call : Call) × Typed call × (call_fault call ≡ Ok tt) × (length (call_bytes call) ≡ 140)
 
 -- ---- request 2.10, old records read as before
 
@@ -191,4 +186,4 @@ pub record OldRecord (call : Call) : Type 0 where
   pub short : OldCall call → length (call_bytes call) ≤ 80
 
 abbrev pub OldRecords : Type 0
-OldRecords = (call : Call) → Typed call → call_fault call ≡ Absent → OldRecord call
+OldRecords = (call : Call) → Typed call → call_fault call ≡ Ok tt → OldRecord call

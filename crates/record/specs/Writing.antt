@@ -1,10 +1,8 @@
 -- Document 01, "Bytes": the bytes of a record, and what writing it answers and leaves.
-use Rattle.std.specs.Prelude.{◌≡◌, ℕ, ◌≤◌, Bool, cond, List, [], ◌∷◌, ◌++◌, length, take, drop, leb}
-use Rattle.record.specs.declared.writer.Recorded.{Recorded}
-use Rattle.record.specs.declared.writer.Recorded.TheVariants.{Length, Unwritten}
+use Rattle.std.specs.Prelude.{◌≡◌, ℕ, ◌≤◌, Bool, cond, List, [], ◌∷◌, ◌++◌, length, take, drop, leb, Err, Ok, Result}
+use Rattle.tuple.specs.Refusals.{Verdict}
+use Rattle.tuple.specs.declared.refusal.Refusal.{Refusal}
 use Rattle.record.specs.Heads.{head_number}
-use Rattle.tuple.specs.declared.fault.Fault.{Fault}
-use Rattle.tuple.specs.declared.fault.Fault.TheVariants.{Absent, Present}
 use Rattle.tuple.specs.declared.field.Field.{Field}
 use Rattle.tuple.specs.declared.field.Tuple.{Tuple}
 use Rattle.tuple.specs.declared.field.Call.{Call}
@@ -38,17 +36,17 @@ call_bytes call =
 -- ---- the answer and the buffer
 
 -- what writing answers: the call's fault, then 10, or the record's length
-abbrev pub room_step : Call → ℕ → Fault → Recorded
-room_step call room (Present fault) = Unwritten fault
-room_step call room Absent = cond (leb (length (call_bytes call)) room) (Length (length (call_bytes call))) (Unwritten (refusal 10))
+abbrev pub room_step : Call → ℕ → Verdict → Result ℕ Refusal
+room_step call room (Err fault) = Err fault
+room_step call room (Ok _) = cond (leb (length (call_bytes call)) room) (Ok (length (call_bytes call))) (Err (refusal 10))
 
-unfoldable pub written_of : Call → ℕ → Recorded
+unfoldable pub written_of : Call → ℕ → Result ℕ Refusal
 written_of call room = room_step call room (call_fault call)
 
 -- what it leaves: the record from the first byte on and no byte after it changed, or after a refusal no byte at all
-abbrev pub buffer_step : Call → List ℕ → Recorded → List ℕ
-buffer_step call buffer (Unwritten why) = buffer
-buffer_step call buffer (Length n) = call_bytes call ++ drop n buffer
+abbrev pub buffer_step : Call → List ℕ → Result ℕ Refusal → List ℕ
+buffer_step call buffer (Err why) = buffer
+buffer_step call buffer (Ok n) = call_bytes call ++ drop n buffer
 
 unfoldable pub left_of : Call → List ℕ → List ℕ
 left_of call buffer = buffer_step call buffer (written_of call (length buffer))

@@ -4,30 +4,23 @@ ghost use Rattle.record.specs.Heads.{head_of};
 
 use tuple::{COUNT, DEFINED, FORMAL, OFFSET, PROCESS_SET, WILDCARD, WORD};
 
-#[derive(Clone, Copy)]
-pub(crate) enum Head {
-    // A kind and a state.
-    Known(u32, u32),
-    Unknown,
-}
-
-// What a head number says.
-pub(crate) fn head_of(number: u64) -> Head
+// What a head number says: the kind and the state of one of the twelve heads.
+pub(crate) fn head_of(number: u64) -> Option<(u32, u32)>
     ensures { result ≡ head_of number }
 {
     match number {
-        4 => Head::Known(WORD, DEFINED),
-        5 => Head::Known(WORD, WILDCARD),
-        6 => Head::Known(WORD, FORMAL),
-        8 => Head::Known(COUNT, DEFINED),
-        9 => Head::Known(COUNT, WILDCARD),
-        10 => Head::Known(COUNT, FORMAL),
-        12 => Head::Known(OFFSET, DEFINED),
-        13 => Head::Known(OFFSET, WILDCARD),
-        14 => Head::Known(OFFSET, FORMAL),
-        16 => Head::Known(PROCESS_SET, DEFINED),
-        17 => Head::Known(PROCESS_SET, WILDCARD),
-        18 => Head::Known(PROCESS_SET, FORMAL),
-        0..=3 | 7 | 11 | 15 | 19..=0xFFFF_FFFF_FFFF_FFFF => Head::Unknown,
+        4 => Some((WORD, DEFINED)),
+        5 => Some((WORD, WILDCARD)),
+        6 => Some((WORD, FORMAL)),
+        8 => Some((COUNT, DEFINED)),
+        9 => Some((COUNT, WILDCARD)),
+        10 => Some((COUNT, FORMAL)),
+        12 => Some((OFFSET, DEFINED)),
+        13 => Some((OFFSET, WILDCARD)),
+        14 => Some((OFFSET, FORMAL)),
+        16 => Some((PROCESS_SET, DEFINED)),
+        17 => Some((PROCESS_SET, WILDCARD)),
+        18 => Some((PROCESS_SET, FORMAL)),
+        0..=3 | 7 | 11 | 15 | 19..=0xFFFF_FFFF_FFFF_FFFF => None,
     }
 }

@@ -5,8 +5,8 @@ mod head;
 mod reader;
 mod writer;
 
-pub use reader::{Cursor, Next, ReadCall, ReadField, ReadNumber, ReadTuple, read};
-pub use writer::{Recorded, write};
+pub use reader::{Cursor, ReadCall, Reading, read};
+pub use writer::write;
 
 // The most bytes of a record.
 pub const RECORD_BYTES: usize = 140;

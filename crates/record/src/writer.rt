@@ -7,31 +7,21 @@ ghost use Rattle.record.specs.Heads.{head_number};
 ghost use Rattle.varint.specs.Reading.{largest};
 ghost use Rattle.varint.specs.Writing.{bytes_of, width_of};
 
-use tuple::{Call, DEFINED, Fault, Field, Refusal, Tuple};
-use varint::Written;
-
-// What writing a record answers.
-#[derive(Clone, Copy)]
-pub enum Recorded {
-    // How many bytes it has.
-    Length(usize),
-    Unwritten(Refusal),
-}
+use tuple::{Call, DEFINED, Field, Refusal, Tuple};
 
 // Puts the record of a call at the start of buffer.
-pub fn write(call: Call, buffer: &mut [u8]) -> Recorded
+#[tactic(auto, unfolding(crate::specs::Writing::written_of, crate::specs::Writing::left_of))]
+pub fn write(call: Call, buffer: &mut [u8]) -> Result<usize, Refusal>
     ensures value { result ≡ written_of call (length buffer.old) }
     ensures buffer_after { buffer.new ≡ left_of call buffer.old }
 {
-    if let Fault::Present(refusal) = call.fault() {
-        return Recorded::Unwritten(refusal);
-    }
+    call.fault()?;
     let n = call_width(call);
     if buffer.len() < n {
-        return Recorded::Unwritten(Refusal::NoRoom);
+        return Err(Refusal::NoRoom);
     }
     put_call(buffer, call);
-    Recorded::Length(n)
+    Ok(n)
 }
 
 // ---- how many bytes
@@ -43,7 +33,7 @@ fn call_width(call: Call) -> usize
     let code = call.code;
     let template = call.template;
     let entry = call.entry;
-    let numbers = varint::width(call.process as u64) + varint::width(code as u64);
+    let numbers = varint::width(u64::from(call.process)) + varint::width(u64::from(code));
     let first = part_width(template, tuple::uses_template(code));
     let second = part_width(entry, tuple::uses_entry(code));
     numbers + first + second
@@ -60,13 +50,9 @@ fn tuple_width(tuple: Tuple) -> usize
     requires { Writable tuple }
     ensures { result ≡ length (tuple_bytes tuple) }
 {
-    let count = tuple.count;
-    let mut n = varint::width(count as u64);
-    let mut i = 0;
-    while i < count {
-        let field = tuple.fields[i];
-        n += field_width(field);
-        i += 1;
+    let mut n = varint::width(tuple.count as u64);
+    for field in &tuple.fields[..tuple.count] {
+        n += field_width(*field);
     }
     n
 }
@@ -93,8 +79,8 @@ fn put_call(buffer: &mut [u8], call: Call)
     let code = call.code;
     let template = call.template;
     let entry = call.entry;
-    let after_process = put_number(buffer, 0, call.process as u64);
-    let after_code = put_number(buffer, after_process, code as u64);
+    let after_process = put_number(buffer, 0, u64::from(call.process));
+    let after_code = put_number(buffer, after_process, u64::from(code));
     let after_template = put_part(buffer, after_code, template, tuple::uses_template(code));
     put_part(buffer, after_template, entry, tuple::uses_entry(code));
 }
@@ -118,13 +104,9 @@ fn put_tuple(buffer: &mut [u8], at: usize, tuple: Tuple) -> usize
     ensures value { result ≡ at + length (tuple_bytes tuple) }
     ensures buffer_after { buffer.new ≡ sets buffer.old at (tuple_bytes tuple) }
 {
-    let count = tuple.count;
-    let mut place = put_number(buffer, at, count as u64);
-    let mut i = 0;
-    while i < count {
-        let field = tuple.fields[i];
-        place = put_field(buffer, place, field);
-        i += 1;
+    let mut place = put_number(buffer, at, tuple.count as u64);
+    for field in &tuple.fields[..tuple.count] {
+        place = put_field(buffer, place, *field);
     }
     place
 }
@@ -148,18 +130,16 @@ fn head_number(field: Field) -> u64
     ensures value { result ≡ head_number field }
     ensures upper_bound { result ≤ largest }
 {
-    4 * (field.kind as u64) + field.state as u64
+    4 * u64::from(field.kind) + u64::from(field.state)
 }
 
+#[tactic(auto, using(crate::proofs::WrittenLaws::number_written))]
 fn put_number(buffer: &mut [u8], at: usize, value: u64) -> usize
     requires value_le_largest { value ≤ largest }
     requires value_in_bounds { at + width_of value ≤ length buffer.old }
     ensures value { result ≡ at + width_of value }
     ensures buffer_after { buffer.new ≡ sets buffer.old at (bytes_of value) }
 {
-    match varint::write(buffer, at, value) {
-        Written::Next(next) => next,
-        Written::Beyond => at,
-        Written::NoRoom => at,
-    }
+    // It is held and has room, so it is written and `at` is never answered.
+    varint::write(buffer, at, value).unwrap_or(at)
 }

@@ -18,18 +18,15 @@ use Rattle.calls.specs.declared.turn.Applied.{Applied}
 use Rattle.space.specs.declared.space.Space.{Space}
 use Rattle.calls.specs.declared.effect.Effect.{Effect}
 use Rattle.calls.specs.Effects.{appends, rdp_effect, inp_effect, cas_effect, effect}
-use Rattle.policy.specs.declared.verdicts.Verdict.TheVariants.{Permit}
+use Rattle.std.specs.Prelude.{None, Ok, Option, Some}
 use Rattle.policy.specs.Policies.{verdict_on}
 use Rattle.calls.specs.Turns.{last, Turn, applied, turns}
 use Rattle.space.specs.Spaces.{held}
 use Rattle.calls.proofs.CallSteps.{Puts, Moves, Steps, steps}
 use Rattle.space.proofs.SpaceRules.{stands}
 use Rattle.calls.proofs.RunSteps.{Goes, next, held-run}
-use Rattle.tuple.specs.declared.fault.Fault.TheVariants.{Absent}
 use Rattle.tuple.specs.declared.field.Tuple.{Tuple}
 use Rattle.tuple.specs.declared.field.Call.{Call}
-use Rattle.tuple.specs.declared.matching.Found.{Found}
-use Rattle.tuple.specs.declared.matching.Found.TheVariants.{At, Nowhere}
 use Rattle.tuple.specs.declared.reply.Reply.{Reply}
 use Rattle.tuple.specs.declared.reply.Outcome.{Outcome}
 use Rattle.tuple.specs.declared.reply.Outcome.TheVariants as outcome
@@ -52,7 +49,7 @@ putting (outcome.Refused why) = false
 
 record Entered (config : Config) (tuples : List Tuple) (call : Call) (how : Outcome) (left : List Tuple) : Type 0 where
   puts : Puts tuples call how
-  permitted : verdict_on config tuples call ≡ Permit
+  permitted : verdict_on config tuples call ≡ Ok tt
   there : Memᴰ call.entry left
 
 entered : {config : Config} {tuples : List Tuple} {call : Call} {how : Outcome} {left : List Tuple} → Goes config tuples call how left → putting how ≡ true
@@ -70,7 +67,7 @@ entered (Goes.goes fault p (Moves.takes i e at inside)) h = absurd (false≢true
 pub record Put (config : Config) (calls : List Call) (turn : Turn) : Type 0 where
   pub before : List Call
   pub puts : Puts (held (last config before)) turn.call turn.reply.outcome
-  pub permitted : verdict_on config (held (last config before)) turn.call ≡ Permit
+  pub permitted : verdict_on config (held (last config before)) turn.call ≡ Ok tt
   pub there : Memᴰ turn.call.entry (held (last config calls))
 
 module _ {config : Config} (safe : SoundConfig config) where
@@ -111,7 +108,7 @@ module _ (tuples : List Tuple) (call : Call) where
   abbrev Showing : Effect → Type 0
   Showing does = showing does.reply.outcome ≡ true → Shown tuples call does.reply.outcome does.reply.tuple
 
-  at-shown : {how : Outcome} (i : ℕ) → oldest_of tuples call.template ≡ At i → (how ≡ outcome.Held → call.code ≡ cas)
+  at-shown : {how : Outcome} (i : ℕ) → oldest_of tuples call.template ≡ Some i → (how ≡ outcome.Held → call.code ≡ cas)
       → Shown tuples call how (get_or tuples i blank_tuple)
   at-shown i at by-cas =
       let found = (oldest-rule.at tuples call.template i).0 at in
@@ -123,17 +120,17 @@ module _ (tuples : List Tuple) (call : Call) where
       (λ e. rw e (λ h. absurd (false≢true (sym none ∙ h))))
       (λ e. rw e (λ h. absurd (false≢true h)))
 
-  read-shown : (found : Found) → oldest_of tuples call.template ≡ found → Showing (rdp_effect tuples found) × Showing (inp_effect tuples found)
-  read-shown (At i) at =
+  read-shown : (found : Option ℕ) → oldest_of tuples call.template ≡ found → Showing (rdp_effect tuples found) × Showing (inp_effect tuples found)
+  read-shown (Some i) at =
       let here : Shown tuples call outcome.Found (get_or tuples i blank_tuple) = at-shown i at (λ e. let z : ◌≡◌ {A = ℕ} 0 1 = cc in absurd (omega arith)) in
       (λ h. here, λ h. here)
-  read-shown Nowhere at = (λ h. absurd (false≢true h), λ h. absurd (false≢true h))
+  read-shown None at = (λ h. absurd (false≢true h), λ h. absurd (false≢true h))
 
-  cas-shown : call.code ≡ cas → (found : Found) → oldest_of tuples call.template ≡ found → Showing (cas_effect tuples found)
-  cas-shown e (At i) at = λ h. at-shown i at (λ held. e)
-  cas-shown e Nowhere at = put-shown outcome.Inserted refl
+  cas-shown : call.code ≡ cas → (found : Option ℕ) → oldest_of tuples call.template ≡ found → Showing (cas_effect tuples found)
+  cas-shown e (Some i) at = λ h. at-shown i at (λ held. e)
+  cas-shown e None at = put-shown outcome.Inserted refl
 
-  effect-shown : call_fault call ≡ Absent → Showing (effect tuples call)
+  effect-shown : call_fault call ≡ Ok tt → Showing (effect tuples call)
   unfolding effect
   effect-shown sound =
       let found = oldest_of tuples call.template in
@@ -146,7 +143,7 @@ module _ (tuples : List Tuple) (call : Call) where
 
 -- the policy permitted the call, whose reply shows a tuple of the space
 pub record Shows (config : Config) (tuples : List Tuple) (call : Call) (reply : Reply) : Type 0 where
-  pub permitted : verdict_on config tuples call ≡ Permit
+  pub permitted : verdict_on config tuples call ≡ Ok tt
   pub shown : Shown tuples call reply.outcome reply.tuple
 
 steps-shown : {space : Space} {call : Call} {done : Applied} → Steps space call done → showing done.reply.outcome ≡ true

@@ -26,7 +26,7 @@ use Rattle.space.specs.declared.config.Config.{Config}
 use Rattle.space.specs.Bounds.{rounds}
 use Rattle.space.specs.Members.{Member}
 use Rattle.space.specs.Proposals.{Proposed}
-use Rattle.policy.specs.declared.verdicts.Verdict.TheVariants.{Permit}
+use Rattle.std.specs.Prelude.{Ok}
 use Rattle.policy.specs.Policies.{verdict_on}
 use Rattle.tuple.specs.Offsets.{bottom}
 use Rattle.space.specs.Shapes.{proposed_code}
@@ -68,7 +68,7 @@ module _ {config : Config} (s : SoundConfig config) {tuples : List Tuple} (fair 
         rw (same, (set-rule w found).size) few
 
     bottom-permitted : config.policy ≡ 2 → config.n - config.t ≤ backing bottom found → ((w : ℕ) → (w ≡ bottom → ⊥) → backing w found ≤ config.t)
-        → verdict_on config tuples (call s fair q round early found codes seen bottom) ≡ Permit
+        → verdict_on config tuples (call s fair q round early found codes seen bottom) ≡ Ok tt
     unfolding ones
     bottom-permitted two enough few =
         (permitted-cas config tuples (call s fair q round early found codes seen bottom) s refl).1 (
@@ -85,7 +85,7 @@ module _ {config : Config} (s : SoundConfig config) {tuples : List Tuple} (fair 
         )
 
     -- what ended the reading bears the value
-    pub permitted : settled config found ≡ true → verdict_on config tuples (call s fair q round early found codes seen (backed config.t found)) ≡ Permit
+    pub permitted : settled config found ≡ true → verdict_on config tuples (call s fair q round early found codes seen (backed config.t found)) ≡ Ok tt
     permitted h =
         let value = backed config.t found in
         let rule = backed-rule config.t found in

@@ -20,7 +20,7 @@ use Rattle.space.specs.declared.config.Config.{Config}
 use Rattle.space.specs.Bounds.{rounds}
 use Rattle.space.specs.Proposals.{decidable, Proposed}
 use Rattle.policy.specs.Laws.{DecisionCall}
-use Rattle.policy.specs.declared.verdicts.Verdict.TheVariants.{Permit}
+use Rattle.std.specs.Prelude.{Ok}
 use Rattle.policy.specs.Policies.{verdict_on}
 use Rattle.tuple.specs.Offsets.{bottom}
 use Rattle.tuple.specs.declared.field.Tuple.{Tuple}
@@ -51,7 +51,7 @@ module _ {config : Config} (s : SoundConfig config) {tuples : List Tuple} (fair 
         may = may;
       }
 
-  pub offset-permitted : (value : ℕ) → decidable config value ≡ true → (value ≡ bottom → ⊥) → config.t + 1 ≤ backing value found → verdict_on config tuples (call value) ≡ Permit
+  pub offset-permitted : (value : ℕ) → decidable config value ≡ true → (value ≡ bottom → ⊥) → config.t + 1 ≤ backing value found → verdict_on config tuples (call value) ≡ Ok tt
   offset-permitted value may some enough =
       (permitted-cas config tuples (call value) s refl).1 (
         shaped value may,

@@ -19,11 +19,11 @@ use Rattle.space.specs.declared.config.Config.{Config}
 use Rattle.space.specs.Configs.{sound, has_proposals}
 use Rattle.space.specs.Laws.{Sound}
 use Rattle.policy.specs.Shapes.{decided_code, set_of, is_decision}
-use Rattle.space.specs.Spaces.{held, fresh_of}
+use Rattle.space.specs.Spaces.{held, fresh_of, fresh_space}
 use Rattle.policy.specs.Laws.{OwnProposal, BearsOffset, BearsBottom}
 use Rattle.space.specs.Members.{within}
 use Rattle.space.specs.Proposals.{decidable}
-use Rattle.policy.specs.declared.verdicts.Verdict.TheVariants.{Permit}
+use Rattle.std.specs.Prelude.{Ok}
 use Rattle.policy.specs.Policies.{verdict_on}
 use Rattle.tuple.specs.Offsets.{bottom}
 use Rattle.calls.specs.Turns.{last}
@@ -75,10 +75,10 @@ module _ {config : Config} (safe : SoundConfig config) where
 
   -- ---- what the policy permits
 
-  pub permitted-out : (tuples : List Tuple) (call : Call) → call.code ≡ out → (verdict_on config tuples call ≡ Permit) ↔ OwnProposal config tuples call
+  pub permitted-out : (tuples : List Tuple) (call : Call) → call.code ≡ out → (verdict_on config tuples call ≡ Ok tt) ↔ OwnProposal config tuples call
   permitted-out tuples call = out-rule config tuples call config-rests
 
-  pub permitted-rdp : (tuples : List Tuple) (call : Call) → call.code ≡ rdp → verdict_on config tuples call ≡ Permit
+  pub permitted-rdp : (tuples : List Tuple) (call : Call) → call.code ≡ rdp → verdict_on config tuples call ≡ Ok tt
   permitted-rdp tuples call = rdp-rule config tuples call config-rests
 
   -- ---- the tuples of a run
@@ -117,8 +117,8 @@ hypothesis config = (
 )
 
 pub opens : Opens
-unfolding fresh_of
-opens config safe = rw (config-sound safe)
+unfolding fresh_of fresh_space
+opens config safe = (rw (config-sound safe), rw (config-sound safe))
 
 -- ---- a permitted cas
 

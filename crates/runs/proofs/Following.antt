@@ -9,7 +9,7 @@ use mathlib.Core.List.{List, [], ◌∷◌, ◌++◌, Memᴰ}
 use lib.Dec.{eqb}
 use borrow.Author.Tests.{eqb-true, eq-eqb, ltb-true}
 use borrow.Table.Steps.{cases}
-use Rattle.process.specs.declared.process.Next.TheVariants.{Calls}
+use Rattle.std.specs.Prelude.{Ok, Result}
 use Rattle.process.specs.declared.process.Phase.TheVariants.{Proposing, Reading, Deciding}
 use Rattle.process.specs.declared.process.Process.{Process}
 use Rattle.process.specs.declared.process.Step.{Step}
@@ -18,24 +18,24 @@ use Rattle.process.specs.Fits.{fits}
 use Rattle.process.specs.Procedure.{proposable, started, reads, resumed}
 use Rattle.process.specs.States.{none_found, well_formed}
 use Rattle.space.specs.Proposals.{offered}
-use Rattle.process.proofs.KeptLaws.{none-sound, resumed-advanced, resumed-formed, started-begun}
+use Rattle.process.proofs.KeptLaws.{none-sound, resumed-advanced, advanced-formed, started-begun, started-parts}
 use Rattle.process.proofs.StateLaws.{none-at, formed-parts}
-use Rattle.runs.specs.Correct.{Standing, Watch, listed, due, state_of, handed}
+use Rattle.runs.specs.Correct.{Standing, Watch, listed, begun, due, state_of, handed}
 use Rattle.runs.specs.Correct.Standing.{idle, busy}
 use Rattle.runs.specs.Decisions.{Decision, decision_in}
 use Rattle.runs.specs.Laws.{MayCall}
 use Rattle.runs.specs.Laws.MayCall.{begins}
 use Rattle.runs.specs.Theorem.{SoundConfig}
 use Rattle.runs.proofs.Fair.{Fair, fair-step}
-use Rattle.runs.proofs.Knowing.{at, cast_by, Knows, blank-fits, Grows, knows_more, After, read, read-after, read-space, settled-by}
+use Rattle.runs.proofs.Knowing.{at, cast_by, Knows, blank-fits, Grows, knows_more, After, read, read-goes, read-after, read-space, settled-by}
 use Rattle.runs.proofs.Knowing.After.{stops, goes_on}
 use Rattle.runs.proofs.Replies as space
 use Rattle.runs.proofs.Standing.{Stands}
-use Rattle.runs.proofs.Starting.{started-parts, started-call, unlisted, due-rule, due-next}
+use Rattle.runs.proofs.Starting.{started-call, unlisted, due-rule, due-next}
 use Rattle.space.specs.declared.config.Config.{Config}
 use Rattle.calls.specs.declared.turn.Applied.{Applied}
 use Rattle.space.specs.Bounds.{rounds}
-use Rattle.tuple.specs.Offsets.{in_range, code_of}
+use Rattle.tuple.specs.Offsets.{in_range, code_of, offset_of}
 use Rattle.space.specs.Shapes.{process_of, is_proposal, round_of}
 use Rattle.space.specs.Spaces.{space_of}
 use Rattle.calls.specs.Turns.{applied}
@@ -45,6 +45,7 @@ use Rattle.policy.proofs.DecisionLaws.{no-proposal}
 use Rattle.tuple.specs.declared.field.Tuple.{Tuple}
 use Rattle.tuple.specs.declared.field.Call.{Call}
 use Rattle.tuple.specs.declared.offset.Offset.{Offset}
+use Rattle.tuple.specs.declared.refusal.Refusal.{Refusal}
 use Rattle.tuple.specs.declared.reply.Outcome.{Outcome}
 use Rattle.tuple.specs.declared.reply.Outcome.TheVariants.{Done}
 use Rattle.tuple.specs.declared.reply.Reply.{Reply}
@@ -65,11 +66,11 @@ pub record Log : Type 0 where
   pub decisions : List Decision
 
 -- after a state has answered to a reply
-abbrev pub handing : Log → Process → Step → Log
-handing log state step =
+abbrev pub handing : Log → Process → Result Step Refusal → Log
+handing log state answer =
     record {
-      watch = record { entered = state.round ∷ log.watch.entered; standing = handed state step step.next };
-      decisions = decision_in state step.next ++ log.decisions;
+      watch = record { entered = state.round ∷ log.watch.entered; standing = handed state answer };
+      decisions = decision_in state answer ++ log.decisions;
     }
 
 -- after a due call
@@ -170,23 +171,22 @@ module _ {config : Config} (s : SoundConfig config) {q : ℕ} (low : 1 ≤ q) (h
   over-more round over r h = cases (eqb round r) (λ e. inl (sym (eqb-true round r e))) (λ e. over r (rw e at h))
 
   -- its proposal in a round not begun
-  own_out : Over begun-rounds log.decisions (λ r. ⊥) → (round : ℕ) (offset : Offset) → listed round begun-rounds ≡ false
-      → (started config q round offset).next ≡ Calls → Own config q tuples log idle (out_call q round (code_of offset))
+  own_out : Over begun-rounds log.decisions (λ r. ⊥) → (round : ℕ) (offset : Offset) (step : Step) → listed round begun-rounds ≡ false
+      → started config q round offset ≡ Ok step → Own config q tuples log idle (out_call q round (code_of offset))
   unfolding fits listed
-  own_out over round offset fresh calls =
-      let parts = started-parts config q round offset calls in
+  own_out over round offset step fresh started-so =
+      let parts = started-parts config q round offset step started-so in
       let code = code-proposable config offset parts.1 in
       let early : round < rounds = ltb-true round rounds parts.0.in-rounds in
       let entry = proposal round q (code_of offset) in
       let reply : Reply = record { outcome = Done; tuple = blank_tuple } in
       let p = at config q round Proposing none_found in
       let starts : state_of config q idle (out_call q round (code_of offset)) ≡ p =
-      ap (λ (step : Step). step.process)
-      (ap (started config q round) (one-to-one.back offset) ∙ started-begun config q round offset parts.0 parts.1) in
+      ap begun (ap (started config q round) (one-to-one.back offset) ∙ started-begun config q round offset parts.0 parts.1) in
       let formed : well_formed p ≡ true = (formed-parts p).1 (parts.0, none-sound config) in
       let fit : fits p reply ≡ true = blank-fits in
-      let goes : resumed p reply ≡ reads p none_found 1 = resumed-advanced p reply formed fit in
-      let kept = resumed-formed p reply refl formed fit in
+      let goes : resumed p reply ≡ Ok (reads p none_found 1) = resumed-advanced p reply formed fit in
+      let kept = advanced-formed p reply refl formed fit in
       let answer = space.proposes s fair q round (code_of offset) low high early code.0 code.1
       (λ tuple m shape r by. false≢true (sym fresh ∙ subst (λ (n : ℕ). listed n begun-rounds ≡ true) r (good.owns tuple m shape by))) in
       record {
@@ -195,7 +195,7 @@ module _ {config : Config} (s : SoundConfig config) {q : ℕ} (low : 1 ≤ q) (h
         space = ap (λ (a : Applied). a.space) answer;
         good = rw (answer, starts, goes) (record {
           stands = works round (over-more round (λ r h. inr (⊎_elim (λ none. absurd none) (λ d. d) (over r h))))
-              (reading 1 none_found (record { long = refl; formed = rw goes at kept.0; seen = λ k some there. absurd (there (none-at config none_found (none-sound config) (k - 1))) }));
+              (reading 1 none_found (record { long = refl; formed = kept.0; seen = λ k some there. absurd (there (none-at config none_found (none-sound config) (k - 1))) }));
           owns = λ tuple m shape by. ⊎_elim (λ (old : Memᴰ tuple tuples). owns-more round tuple old shape by)
               (λ (new : Memᴰ tuple (entry ∷ [])). rw (Memᴰ.eq_of_singleton new, eq-eqb round round refl)) (Memᴰ.append_cases tuples m);
           logged = λ d m. stands-more (λ tuple there. Memᴰ.append_left (entry ∷ []) there) (good.logged d m);
@@ -205,7 +205,7 @@ module _ {config : Config} (s : SoundConfig config) {q : ℕ} (low : 1 ≤ q) (h
   -- a later call in a round
   module _ (round : ℕ) (over : Over begun-rounds log.decisions (λ r. r ≡ round)) where
     after-good : {asked : ℕ} (found : List ℕ) {noticed : List ℕ} {step : Step} → After config q tuples round asked noticed step
-        → Good config q tuples (handing log (at config q round (Reading asked) found) step)
+        → Good config q tuples (handing log (at config q round (Reading asked) found) (Ok step))
     after-good found {noticed} (stops knows) =
         record { stands = works round (over-more round over) (deciding noticed knows); owns = owns-more round; logged = good.logged }
     after-good found {noticed} (goes_on next e free knows) =
@@ -224,11 +224,11 @@ module _ {config : Config} (s : SoundConfig config) {q : ℕ} (low : 1 ≤ q) (h
           fit = (read s low high fair round asked found k).fit;
           next = tuples;
           space = read-space s low high fair round asked found k;
-          good = after-good found (read-after s low high fair round asked found k);
+          good = rw (read-goes s low high fair round asked found k) (after-good found (read-after s low high fair round asked found k));
         })
     own-busy {standing} (deciding found k) call h =
         let done = settled-by s low high fair round found k in
-        let d : Decision = record { round = round; offset = done.offset } in
+        let d : Decision = record { round = round; offset = offset_of done.code } in
         let same : cast_by config q round found ≡ call = due-next config q begun-rounds (at config q round Deciding found) _ call h in
         subst (λ (c : Call). Own config q tuples log standing c) same
         (record {
@@ -236,7 +236,7 @@ module _ {config : Config} (s : SoundConfig config) {q : ℕ} (low : 1 ≤ q) (h
           next = done.next;
           space = done.space;
           good = rw done.then (record {
-            stands = rests (over-now done.offset);
+            stands = rests (over-now (offset_of done.code));
             owns = λ tuple m shape by. owns-more round tuple (done.old tuple m shape) shape by;
             logged = λ e m. ⊎_elim (λ (now : e ≡ d). subst (Stands done.next) (sym now) done.stands)
                 (λ (old : Memᴰ e log.decisions). stands-more done.grows (good.logged e old)) (Memᴰ.cases_cons m);
@@ -249,9 +249,9 @@ module _ {config : Config} (s : SoundConfig config) {q : ℕ} (low : 1 ≤ q) (h
   own (rests over) call h = of ((due-rule config q begun-rounds idle call).0 h)
     where
       of : MayCall config q begun-rounds call idle → Own config q tuples log idle call
-      of (begins round offset never goes same) =
-          subst (λ (c : Call). Own config q tuples log idle c) (sym (started-call config q round offset goes) ∙ same)
-          (own_out over round offset (unlisted round begun-rounds never) goes)
+      of (begins round offset step never goes next) =
+          subst (λ (c : Call). Own config q tuples log idle c) (sym (started-call config q round offset step call goes next))
+          (own_out over round offset step (unlisted round begun-rounds never) goes)
   own (works round over b) call h = own-busy round over b call h
 
   pub own_turn : (call : Call) → due config q begun-rounds log.watch.standing call ≡ true → Own config q tuples log log.watch.standing call

@@ -5,10 +5,11 @@ use Prim.Native.Nat.{ℕ}
 use native.Mathlib.Omega.{arith}
 use mathlib.Core.Bool.{true, false}
 use mathlib.Core.List.{List, [], ◌∷◌, ◌++◌}
+use Rattle.std.specs.Prelude.{Ok}
 use Rattle.process.specs.declared.process.Next.TheVariants.{Calls}
 use Rattle.process.specs.declared.process.Process.{Process}
-use Rattle.process.specs.Asks.{out_call}
-use Rattle.process.specs.Procedure.{begun, started}
+use Rattle.process.specs.declared.process.Step.{Step}
+use Rattle.process.specs.Procedure.{started}
 use Rattle.runs.specs.Correct.{Standing, listed, Correct}
 use Rattle.runs.specs.Correct.Standing.{idle, busy, stuck}
 use Rattle.runs.specs.Decisions.{Decision, HasDecided}
@@ -17,13 +18,12 @@ use Rattle.runs.specs.Theorem.{SoundConfig}
 use Rattle.runs.proofs.Following.{Busy, Sound, present, own_turn}
 use Rattle.runs.proofs.Monitoring.{skips, takes}
 use Rattle.runs.proofs.Standing.{Logged}
-use Rattle.runs.proofs.Starting.{started-call, out-due}
+use Rattle.runs.proofs.Starting.{started-own, begins-due}
 use Rattle.runs.proofs.Watching.{here, held-here}
 use Rattle.space.specs.declared.config.Config.{Config}
 use Rattle.tuple.specs.declared.field.Tuple.{Tuple}
 use Rattle.tuple.specs.declared.field.Call.{Call}
 use Rattle.tuple.specs.declared.offset.Offset.{Offset}
-use Rattle.tuple.specs.Offsets.{code_of}
 use Rattle.tuple.proofs.EqualityLaws.{same-call-rule}
 
 -- ---- what a correct process knows
@@ -86,15 +86,16 @@ module _ {config : Config} (s : SoundConfig config) (calls : List Call) {q : ℕ
       (own, takes config q calls call c own (rw e ((same-call-rule call call).1 refl)))
 
   -- with the out of a round not begun
-  pub between : (round : ℕ) (offset : Offset) → c.watch.standing ≡ idle → listed round c.watch.entered ≡ false → (started config q round offset).next ≡ Calls
-      → Correct config (calls ++ (out_call q round (code_of offset) ∷ [])) q
-  between round offset e fresh goes =
-      takes config q calls (out_call q round (code_of offset)) c refl (rw e (out-due config q c.watch.entered round offset fresh goes))
+  pub between : (round : ℕ) (offset : Offset) (step : Step) (call : Call) → c.watch.standing ≡ idle → listed round c.watch.entered ≡ false
+      → started config q round offset ≡ Ok step → step.next ≡ Calls call → (call.process ≡ q) × Correct config (calls ++ (call ∷ [])) q
+  between round offset step call e fresh goes next =
+      let own = started-own config q round offset step call goes next in
+      (own, takes config q calls call c own (rw e (begins-due config q c.watch.entered round offset step call fresh goes next)))
 
 pub going_on : GoingOn
 going_on config calls process s c =
     record {
       within = within s calls c;
-      between = λ round offset e fresh goes. rw (started-call config process round offset goes) (refl, between s calls c round offset e fresh goes);
+      between = between s calls c;
       others = λ call other own apart. skips config other calls call (λ e. apart (sym e ∙ own));
     }

@@ -10,14 +10,14 @@ use mathlib.Core.List.{List, [], ◌∷◌, ◌++◌, append_assoc, append-nil}
 use lib.Dec.{eqb}
 use borrow.Author.Tests.{eqb-true, eqb-false, eq-eqb, ne_eqb}
 use borrow.Table.Steps.{cases}
-use Rattle.process.specs.declared.process.Next.TheVariants.{Calls}
+use Rattle.std.specs.Prelude.{Ok, Result}
 use Rattle.process.specs.declared.process.Step.{Step}
 use Rattle.process.specs.Asks.{out_call}
 use Rattle.process.specs.Fits.{fits_out, fits}
 use Rattle.process.specs.Procedure.{begun, started}
 use Rattle.process.specs.Laws.{MayPropose}
 use Rattle.process.proofs.OrderLaws.{start-order}
-use Rattle.runs.specs.Correct.{unbegun, listed, started_by, right, monitored, Correct, amount}
+use Rattle.runs.specs.Correct.{unbegun, listed, started_by, begun as begun·, right, monitored, Correct, amount}
 use Rattle.runs.specs.Decisions.{DoneProposal, has_done_proposal, calls_of}
 use Rattle.runs.specs.Theorem.{SoundConfig, turn_on}
 use Rattle.runs.proofs.Going.{within, between, fitting, DecidedIn, decided-or-busy, busy-call}
@@ -27,7 +27,7 @@ use Rattle.runs.proofs.Promptness.{own-begun}
 use Rattle.runs.proofs.Proposing.{proposed-more}
 use Rattle.runs.proofs.Configs.{hypothesis}
 use Rattle.runs.proofs.Runs.{run-theorem}
-use Rattle.runs.proofs.Starting.{out-due}
+use Rattle.runs.proofs.Starting.{begins-due}
 use Rattle.runs.proofs.Tests.{proposed-rule}
 use Rattle.runs.proofs.Turning.{turns-append}
 use Rattle.space.proofs.ConfigLaws.{sound-rule}
@@ -36,6 +36,7 @@ use Rattle.calls.specs.Turns.{last, applied, turns, turns_from}
 use Rattle.tuple.specs.declared.field.Tuple.{Tuple}
 use Rattle.tuple.specs.declared.field.Call.{Call}
 use Rattle.tuple.specs.declared.offset.Offset.{Offset}
+use Rattle.tuple.specs.declared.refusal.Refusal.{Refusal}
 use Rattle.tuple.specs.declared.reply.Outcome.{Outcome}
 use Rattle.tuple.specs.declared.reply.Outcome.TheVariants.{Done, None, Found, Inserted, Held, Refused}
 use Rattle.tuple.specs.Offsets.{code_of}
@@ -69,7 +70,7 @@ module _ {config : Config} (s : SoundConfig config) (m round : ℕ) (choice : �
   abbrev opening : ℕ → Call
   opening q = out_call q round (code_of (choice q))
 
-  begins : (q : ℕ) → 1 ≤ q → q ≤ m → started config q round (choice q) ≡ begun config q round (choice q)
+  begins : (q : ℕ) → 1 ≤ q → q ≤ m → started config q round (choice q) ≡ Ok (begun config q round (choice q))
   begins q low high =
       let starts = (hypothesis config).0 s in
       (start-order config q round (choice q)).begins ((sound-rule config).0 starts.0, starts.1) (low, omega arith) (may q low high)
@@ -123,8 +124,11 @@ module _ {config : Config} (s : SoundConfig config) (m round : ℕ) (choice : �
     abbrev newest : ℕ
     newest = suc j
 
-    starts : (started config newest round (choice newest)).next ≡ Calls
-    starts = ap (λ (step : Step). step.next) (begins newest (omega arith) few)
+    abbrev first-step : Step
+    first-step = begun config newest round (choice newest)
+
+    starts : started config newest round (choice newest) ≡ Ok first-step
+    starts = begins newest (omega arith) few
 
     first : Correct config o.calls newest
     first = record { some = omega arith; few = omega arith; watch = unbegun; stands = o.others newest (omega arith) few }
@@ -132,15 +136,15 @@ module _ {config : Config} (s : SoundConfig config) (m round : ℕ) (choice : �
     done : (applied (last config o.calls) (opening newest)).reply.outcome ≡ Done
     unfolding fits listed first
     done =
-        let fit = fitting config o.calls newest (opening newest) s first (out-due config newest [] round (choice newest) refl starts) in
-        let same : started_by config newest (opening newest).entry ≡ begun config newest round (choice newest) =
-        ap (started config newest round) (one-to-one.back (choice newest)) ∙ begins newest (omega arith) few in
-        only-done _ _ (subst (λ (step : Step). fits step.process (applied (last config o.calls) (opening newest)).reply ≡ true) same fit)
+        let fit = fitting config o.calls newest (opening newest) s first (begins-due config newest [] round (choice newest) first-step (opening newest) refl starts refl) in
+        let same : started_by config newest (opening newest).entry ≡ Ok first-step =
+        ap (started config newest round) (one-to-one.back (choice newest)) ∙ starts in
+        only-done _ _ (subst (λ (handed : Result Step Refusal). fits (begun· handed) (applied (last config o.calls) (opening newest)).reply ≡ true) same fit)
 
     proposes : Proposer (o.calls ++ (opening newest ∷ [])) newest
     unfolding turns_from has_shape listed first
     proposes = (
-      between s o.calls first round (choice newest) refl refl starts,
+      (between s o.calls first round (choice newest) first-step (opening newest) refl refl starts refl).1,
       record {
         turn = turn_on (last config o.calls) (opening newest);
         occurs = rw (turns-append config o.calls (opening newest ∷ [])) (Memᴰ.append_right (turns config o.calls) (Memᴰ.head refl));

@@ -1,6 +1,6 @@
 -- What a state that knows only what stands makes of the space's replies to its reading and its cas. From the replies of the space and the laws of
 -- the procedure.
-use mathlib.Core.Path.{◌≡◌, refl, sym, ◌∙◌, subst}
+use mathlib.Core.Path.{◌≡◌, refl, sym, ap, ◌∙◌, subst}
 use mathlib.Core.Logic.{⊎_elim}
 use Prim.Native.Nat.{ℕ, ◌^◌, ◌-◌, ◌≤◌, ◌<◌}
 use native.Mathlib.Omega.{arith}
@@ -12,18 +12,18 @@ use lib.Seq.{get_or-set_same, get_or-set_other}
 use lib.Dec.{eqb}
 use borrow.Author.Tests.{eqb-true, eqb-false, ltb-true}
 use borrow.Table.Steps.{cases}
-use Rattle.process.specs.declared.process.Next.TheVariants.{Decides}
+use Rattle.std.specs.Prelude.{Ok}
 use Rattle.process.specs.declared.process.Phase.{Phase}
 use Rattle.process.specs.declared.process.Phase.TheVariants.{Reading, Deciding}
 use Rattle.process.specs.declared.process.Process.{Process}
 use Rattle.process.specs.declared.process.Step.{Step}
 use Rattle.process.specs.Asks.{rdp_call, cas_call}
 use Rattle.process.specs.Fits.{fits}
-use Rattle.process.specs.Procedure.{reads, casts, read_on, resumed}
+use Rattle.process.specs.Procedure.{reads, casts, decides, read_on, advanced, resumed}
 use Rattle.process.specs.States.{well_formed}
 use Rattle.process.specs.Tallies.{found_of, backing_set, backed, settled, next_after}
 use Rattle.process.proofs.FitLaws.{answer-rule, held-rule}
-use Rattle.process.proofs.KeptLaws.{resumed-advanced, resumed-formed}
+use Rattle.process.proofs.KeptLaws.{resumed-advanced, advanced-formed}
 use Rattle.space.proofs.CodeLaws.{offered-some, decidable-small}
 use Rattle.process.proofs.ChoiceLaws.{backed-decidable}
 use Rattle.process.proofs.StateLaws.{Reads, startable-parts, formed-parts, reading-rule, deciding-rule}
@@ -45,7 +45,6 @@ use Rattle.space.specs.Spaces.{space_of}
 use Rattle.calls.specs.Turns.{applied}
 use Rattle.tuple.specs.declared.field.Tuple.{Tuple}
 use Rattle.tuple.specs.declared.field.Call.{Call}
-use Rattle.tuple.specs.declared.offset.Offset.{Offset}
 use Rattle.tuple.specs.declared.reply.Reply.{Reply}
 use Rattle.tuple.specs.Faults.{rest_from, rest_blank, place_blank, is_blank}
 use Rattle.tuple.specs.Fields.{blank_tuple}
@@ -119,7 +118,7 @@ module _ {config : Config} (s : SoundConfig config) {q : ℕ} (low : 1 ≤ q) (h
     pub fit : fits p reply ≡ true
     pub noticed : List ℕ
     pub noted : Noted config tuples round asked found noticed
-    pub goes : resumed p reply ≡ read_on p noticed asked
+    pub goes : advanced p reply (Reading asked) ≡ read_on p noticed asked
 
   early : round < rounds
   early = ltb-true round rounds ((formed-parts p).0 knows.formed).0.in-rounds
@@ -136,7 +135,7 @@ module _ {config : Config} (s : SoundConfig config) {q : ℕ} (low : 1 ≤ q) (h
           others = λ k some apart. refl;
           this = λ tuple m shape r by. absurd (none tuple m shape r by);
         };
-        goes = resumed-advanced p reply knows.formed blank-fits;
+        goes = refl;
       }
   reads_on reply (space.Read.some tuple there entry shape r by) =
       let fit : fits p reply ≡ true = (answer-rule config round asked tuple).1
@@ -160,20 +159,23 @@ module _ {config : Config} (s : SoundConfig config) {q : ℕ} (low : 1 ≤ q) (h
           others = others;
           this = λ t m sh ro pr z. offered-some config code shape.may (sym same ∙ z);
         };
-        goes = resumed-advanced p reply knows.formed fit;
+        goes = refl;
       }
 
-  after : (reply : Reply) (r : ReadsOn reply) → After config q tuples round asked r.noticed (resumed p reply)
+  after : (reply : Reply) (r : ReadsOn reply) → After config q tuples round asked r.noticed (read_on p r.noticed asked)
   after reply r =
-      let formed = (resumed-formed p reply knows.long knows.formed r.fit).0 in
-      rw r.goes (cases (settled config r.noticed)
-      (λ e. rw e (stops (record { long = r.noted.long; formed = rw (r.goes, e) at formed; seen = r.noted.seen })))
-      (λ e. rw e (goes_on _ refl e (record { long = r.noted.long; formed = rw (r.goes, e) at formed; seen = r.noted.seen }))))
+      let formed = rw r.goes at (advanced-formed p reply knows.long knows.formed r.fit).0 in
+      cases (settled config r.noticed)
+      (λ e. rw e (stops (record { long = r.noted.long; formed = rw e at formed; seen = r.noted.seen })))
+      (λ e. rw e (goes_on _ refl e (record { long = r.noted.long; formed = rw e at formed; seen = r.noted.seen })))
 
   pub read : ReadsOn (applied (space_of config tuples) (rdp_call q round asked)).reply
   read = reads_on _ (space.reads s fair q round asked low high early (asks knows).most).0
 
-  pub read-after : After config q tuples round asked read.noticed (resumed p (applied (space_of config tuples) (rdp_call q round asked)).reply)
+  pub read-goes : resumed p (applied (space_of config tuples) (rdp_call q round asked)).reply ≡ Ok (read_on p read.noticed asked)
+  read-goes = resumed-advanced p _ knows.formed read.fit ∙ ap Ok read.goes
+
+  pub read-after : After config q tuples round asked read.noticed (read_on p read.noticed asked)
   read-after = after _ read
 
   pub read-space : (applied (space_of config tuples) (rdp_call q round asked)).space ≡ space_of config tuples
@@ -194,11 +196,11 @@ module _ {config : Config} (s : SoundConfig config) {q : ℕ} (low : 1 ≤ q) (h
     pub fit : fits state done.reply ≡ true
     pub next : List Tuple
     pub space : done.space ≡ space_of config next
-    pub offset : Offset
-    pub then : (resumed state done.reply).next ≡ Decides offset
+    pub code : ℕ
+    pub then : resumed state done.reply ≡ Ok (decides state code)
     pub grows : Grows tuples next
     pub old : (tuple : Tuple) → Memᴰ tuple next → is_proposal tuple ≡ true → Memᴰ tuple tuples
-    pub stands : Stands next (record { round = round; offset = offset })
+    pub stands : Stands next (record { round = round; offset = offset_of code })
 
   settles : (done : Applied) → space.Cast s fair q round value (backing_set value found) done → Settles done
   unfolding fits has_shape
@@ -208,8 +210,8 @@ module _ {config : Config} (s : SoundConfig config) {q : ℕ} (low : 1 ≤ q) (h
         fit = blank-fits;
         next = tuples ++ (entry ∷ []);
         space = refl;
-        offset = offset_of value;
-        then = rw (resumed-advanced state done.reply knows.formed blank-fits);
+        code = value;
+        then = resumed-advanced state done.reply knows.formed blank-fits;
         grows = λ tuple m. Memᴰ.append_left (entry ∷ []) m;
         old = λ tuple m shape. ⊎_elim (λ (there : Memᴰ tuple tuples). there)
             (λ (new : Memᴰ tuple (entry ∷ [])). absurd (false≢true (rw (Memᴰ.eq_of_singleton new) at shape))) (Memᴰ.append_cases tuples m);
@@ -222,8 +224,8 @@ module _ {config : Config} (s : SoundConfig config) {q : ℕ} (low : 1 ≤ q) (h
         fit = fit;
         next = tuples;
         space = refl;
-        offset = offset_of (decided_code tuple);
-        then = rw (resumed-advanced state done.reply knows.formed fit);
+        code = decided_code tuple;
+        then = resumed-advanced state done.reply knows.formed fit;
         grows = λ tuple m. m;
         old = λ tuple m shape. m;
         stands = record { tuple = tuple; there = there; shape = shape; in-round = r; of = refl };

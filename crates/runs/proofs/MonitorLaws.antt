@@ -7,17 +7,18 @@ use mathlib.Core.List.{List, [], ◌∷◌, ◌++◌}
 use lib.ListN.{length}
 use borrow.Author.Tests.{eq-eqb, ne_eqb}
 use borrow.Table.Steps.{cases}
+use Rattle.std.specs.Prelude.{Ok}
 use Rattle.process.specs.declared.process.Next.TheVariants.{Calls}
 use Rattle.process.specs.declared.process.Process.{Process}
 use Rattle.process.specs.declared.process.Step.{Step}
 use Rattle.process.specs.Procedure.{started, resumed}
-use Rattle.runs.specs.Correct.{Standing, Watch, unbegun, due, state_of, handed, took_turn, is_own, right, wrong, watched, monitored, Correct}
+use Rattle.runs.specs.Correct.{Standing, Watch, unbegun, begun, due, state_of, handed, took_turn, is_own, right, wrong, watched, monitored, Correct}
 use Rattle.runs.specs.Correct.Standing.{idle, busy}
 use Rattle.runs.specs.Decisions.{Decision, decision_in, decisions_over, decisions_of}
 use Rattle.runs.specs.Laws.{MayCall, HandedOn, MonitorRules}
 use Rattle.runs.specs.Theorem.{turn_on}
 use Rattle.runs.proofs.Monitoring.{right-same, wrong-right, monitored-append, before, skips, correct-skips, taken, takes}
-use Rattle.runs.proofs.Starting.{started-call, started-again, due-rule}
+use Rattle.runs.proofs.Starting.{started-own, started-again, due-rule}
 use Rattle.runs.proofs.Turning.{turns-append}
 use Rattle.space.specs.declared.config.Config.{Config}
 use Rattle.calls.specs.Turns.{last, Turn, applied, turns, turns_from}
@@ -27,9 +28,9 @@ use Rattle.tuple.specs.declared.reply.Reply.{Reply}
 
 -- what a handing leaves
 handing : (state : Process) (reply : Reply) (before : Watch) (given : List Decision)
-    → HandedOn state reply before (record { entered = state.round ∷ before.entered; standing = handed state (resumed state reply) (resumed state reply).next }) given
-    (decision_in state (resumed state reply).next ++ given)
-handing state reply before given = record { entered = refl; goes = λ e. rw e (refl, refl); ends = λ offset e. rw e (refl, refl) }
+    → HandedOn state reply before (record { entered = state.round ∷ before.entered; standing = handed state (resumed state reply) }) given
+    (decision_in state (resumed state reply) ++ given)
+handing state reply before given = record { entered = refl; goes = λ step call goes next. rw (goes, next) (refl, refl); ends = λ step offset goes next. rw (goes, next) (refl, refl) }
 
 module _ (config : Config) (q : ℕ) where
   module _ (calls : List Call) (call : Call) (c : Correct config calls q) (own : call.process ≡ q) where
@@ -57,7 +58,7 @@ module _ (config : Config) (q : ℕ) where
       watch-after : took_turn config q c.watch call reply ≡ d.watch
       watch-after = right-same (sym (taken config q calls call c own (was-due d)) ∙ d.stands)
 
-      given-after : decision_in state (resumed state reply).next ++ decisions_of config calls q ≡ decisions_of config (calls ++ (call ∷ [])) q
+      given-after : decision_in state (resumed state reply) ++ decisions_of config calls q ≡ decisions_of config (calls ++ (call ∷ [])) q
       unfolding decisions_over turns_from
       given-after =
           let b = before config q calls (call ∷ []) d in
@@ -103,15 +104,14 @@ module _ (config : Config) (q : ℕ) where
   range = (λ c. (c.some, c.few), λ both. record { some = both.0; few = both.1; watch = unbegun; stands = starts.0 })
 
   module _ (calls : List Call) (c : Correct config calls q) where
-    first-handed : (round : ℕ) (offset : Offset) → c.watch.standing ≡ idle → (started config q round offset).next ≡ Calls
-        → (d : Correct config (calls ++ ((started config q round offset).call ∷ [])) q)
-        → HandedOn (started config q round offset).process (applied (last config calls) (started config q round offset).call).reply c.watch d.watch
-        (decisions_of config calls q) (decisions_of config (calls ++ ((started config q round offset).call ∷ [])) q)
-    first-handed round offset rests goes d =
-        let call = (started config q round offset).call in
-        let own : call.process ≡ q = ap (λ (x : Call). x.process) (started-call config q round offset goes) in
-        let same : state_of config q c.watch.standing call ≡ (started config q round offset).process =
-        ap (λ (x : Standing). state_of config q x call) rests ∙ ap (λ (x : Step). x.process) (started-again config q round offset goes) in
+    first-handed : (round : ℕ) (offset : Offset) (step : Step) (call : Call) → c.watch.standing ≡ idle → started config q round offset ≡ Ok step
+        → step.next ≡ Calls call → (d : Correct config (calls ++ (call ∷ [])) q)
+        → HandedOn step.process (applied (last config calls) call).reply c.watch d.watch
+        (decisions_of config calls q) (decisions_of config (calls ++ (call ∷ [])) q)
+    first-handed round offset step call rests goes next d =
+        let own = started-own config q round offset step call goes next in
+        let same : state_of config q c.watch.standing call ≡ step.process =
+        ap (λ (x : Standing). state_of config q x call) rests ∙ ap begun (started-again config q round offset step call goes next) in
         subst (λ (p : Process). HandedOn p (applied (last config calls) call).reply c.watch d.watch (decisions_of config calls q) (decisions_of config (calls ++ (call ∷ [])) q))
         same (handed-on calls call c own d)
 
@@ -130,6 +130,6 @@ monitor-rules config q =
       start = starts config q;
       other = λ calls call apart. (skips config q calls call apart, skips-given config q calls call apart, other-rule config q calls call apart);
       own = own-rule config q;
-      first = λ calls round offset c. first-handed config q calls c round offset;
+      first = λ calls round offset step call c. first-handed config q calls c round offset step call;
       next = λ calls call state c. next-handed config q calls c call state;
     }

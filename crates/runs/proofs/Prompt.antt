@@ -7,6 +7,7 @@ use mathlib.Core.Bool.{Bool, true, false≢true}
 use mathlib.Core.List.Memᴰ
 use mathlib.Core.List.{List, [], ◌∷◌, Memᴰ}
 use borrow.Author.Tests.{eq-eqb, ne_eqb}
+use Rattle.std.specs.Prelude.{Ok}
 use Rattle.process.specs.declared.process.Phase.TheVariants.{Reading, Deciding}
 use Rattle.process.specs.declared.process.Step.{Step}
 use Rattle.process.specs.Asks.{rdp_call}
@@ -17,7 +18,7 @@ use Rattle.runs.specs.Correct.Standing.{busy}
 use Rattle.runs.specs.Decisions.{decisions_over, calls_of}
 use Rattle.runs.specs.Theorem.{SoundConfig}
 use Rattle.runs.proofs.Following.{Log, handing, took, Given}
-use Rattle.runs.proofs.Knowing.{at, cast_by, Knows, Grows, knows_more, asks, Noted, After, read, read-after, settled-by}
+use Rattle.runs.proofs.Knowing.{at, cast_by, Knows, Grows, knows_more, asks, Noted, After, read, read-goes, read-after, settled-by}
 use Rattle.runs.proofs.Knowing.After.{stops, goes_on}
 use Rattle.runs.proofs.Sweep.{all_found, Leg, leg-some, leg-on}
 use Rattle.runs.proofs.Watching.{At, Ends, decided, left, own-log, turned}
@@ -28,6 +29,7 @@ use Rattle.space.specs.Spaces.{space_of}
 use Rattle.calls.specs.Turns.{applied, turns_from}
 use Rattle.tuple.specs.declared.field.Tuple.{Tuple}
 use Rattle.tuple.specs.declared.field.Call.{Call}
+use Rattle.tuple.specs.Offsets.{offset_of}
 use Rattle.tuple.proofs.EqualityLaws.{same-call-rule}
 
 -- those that pass the test have proposed in the round, and their proposals stand
@@ -68,7 +70,7 @@ module _ {config : Config} (s : SoundConfig config) {q : ℕ} (low : 1 ≤ q) (h
     read-progress : (a asked left : ℕ) (found : List ℕ) → Knows config q tuples round (Reading asked) found → (some : 1 ≤ a) (few : a ≤ config.n)
         → Leg test config.n a some few asked found left
         → {noticed : List ℕ} {step : Step} → Noted config tuples round asked found noticed → After config q tuples round asked noticed step
-        → Progress tuples (handing log (at config q round (Reading asked) found) step) (left + 1)
+        → Progress tuples (handing log (at config q round (Reading asked) found) (Ok step)) (left + 1)
     read-progress a asked left found k some few leg {noticed} noted (stops knows) =
         fewer 1 (omega (arith, leg-some test config.n a some few (asks k).most leg)) (casts noticed knows)
     read-progress a asked left found k some few leg {noticed} noted (goes_on next e free knows) =
@@ -86,12 +88,13 @@ module _ {config : Config} (s : SoundConfig config) {q : ℕ} (low : 1 ≤ q) (h
         → Progress tuples (took config q log standing call (applied (space_of config tuples) call).reply) m
     own-progress {standing} (reads a asked left found k some few leg) call d =
         subst (λ (c : Call). Progress tuples (took config q log standing c (applied (space_of config tuples) c).reply) (left + 1)) ((same-call-rule _ _).0 d)
+        (rw (read-goes s low high now.fair round asked found k)
         (read-progress a asked left found k some few leg (read s low high now.fair round asked found k).noted
-        (read-after s low high now.fair round asked found k))
+        (read-after s low high now.fair round asked found k)))
     own-progress {standing} (casts found k) call d =
         let done = settled-by s low high now.fair round found k in
         subst (λ (c : Call). Progress tuples (took config q log standing c (applied (space_of config tuples) c).reply) 1) ((same-call-rule _ _).0 d)
-        (ends (done.offset, rw done.then (Memᴰ.head refl)))
+        (ends (offset_of done.code, rw done.then (Memᴰ.head refl)))
 
   -- ---- all calls
 

@@ -18,7 +18,7 @@ use Rattle.runs.proofs.Turning.{by_turn}
 use Rattle.space.specs.declared.config.Config.{Config}
 use Rattle.policy.specs.Shapes.{decided_code, is_decision_template, is_decision}
 use Rattle.policy.specs.Laws.{DecisionCall}
-use Rattle.policy.specs.declared.verdicts.Verdict.TheVariants.{Permit}
+use Rattle.std.specs.Prelude.{Ok}
 use Rattle.policy.specs.Policies.{verdict_on}
 use Rattle.calls.specs.Turns.{last, Turn, applied, turns}
 use Rattle.tuple.specs.Shapes.{field, is, says}
@@ -81,7 +81,7 @@ puts-cas (by-cas e none) same = e
 
 module _ {config : Config} (safe : SoundConfig config) where
   -- a cas that the policy permitted has the two shapes
-  decision-call : (before : List Call) (call : Call) → verdict_on config (held (last config before)) call ≡ Permit → call.code ≡ cas → DecisionCall config call
+  decision-call : (before : List Call) (call : Call) → verdict_on config (held (last config before)) call ≡ Ok tt → call.code ≡ cas → DecisionCall config call
   decision-call before call permitted code = ((permitted-cas config _ call safe code).0 permitted).0
 
   pub inserted-stands : {turn : Turn} (calls : List Call) → Memᴰ turn (turns config calls) → turn.reply.outcome ≡ Inserted

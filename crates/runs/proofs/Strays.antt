@@ -30,7 +30,7 @@ use Rattle.policy.proofs.PolicyLaws.{inp-rule}
 use Rattle.calls.specs.Turns.{last, Turn, applied, turns, turns_from}
 use Rattle.calls.proofs.CallLaws.{denied-rule}
 use Rattle.calls.proofs.RunSteps.{run-formed}
-use Rattle.tuple.specs.declared.fault.Fault.TheVariants.{Absent}
+use Rattle.std.specs.Prelude.{Ok}
 use Rattle.tuple.specs.declared.field.Call.{Call}
 use Rattle.tuple.specs.declared.reply.Outcome.TheVariants.{Refused}
 use Rattle.tuple.specs.Faults.{known_head, field_fault, fields_fault, tuple_fault, part_fault, uses_template, uses_entry, used_fault, is_blank, place_blank, rest_from, rest_blank, call_fault}
@@ -52,7 +52,7 @@ stray q =
       entry = blank_tuple;
     }
 
-stray-faultless : (q : ℕ) → call_fault (stray q) ≡ Absent
+stray-faultless : (q : ℕ) → call_fault (stray q) ≡ Ok tt
 unfolding call_fault used_fault part_fault uses_template uses_entry tuple_fault fields_fault field_fault known_head rest_blank rest_from place_blank is_blank
 stray-faultless q = refl
 

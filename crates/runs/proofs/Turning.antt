@@ -8,7 +8,7 @@ use Rattle.runs.specs.Theorem.{turn_on}
 use Rattle.space.specs.declared.config.Config.{Config}
 use Rattle.space.specs.declared.space.Space.{Space}
 use Rattle.calls.specs.Turns.{last_of, after, last, Turn, applied, turns_from, turns}
-use Rattle.space.specs.Spaces.{fresh_of}
+use Rattle.space.specs.Spaces.{fresh_space}
 use Rattle.calls.proofs.SumLaws.{after-append}
 use Rattle.tuple.specs.declared.field.Call.{Call}
 
@@ -49,10 +49,10 @@ comes space (call ∷ calls) m =
 module _ (config : Config) where
   pub turns-append : (before behind : List Call) → turns config (before ++ behind) ≡ turns config before ++ turns_from (last config before) behind
   unfolding turns
-  turns-append before behind = from-append (fresh_of config).space before behind
+  turns-append before behind = from-append (fresh_space config) before behind
 
   pub last-append : (before behind : List Call) → last config (before ++ behind) ≡ after (last config before) behind
-  last-append before behind = after-append (fresh_of config).space before behind
+  last-append before behind = after-append (fresh_space config) before behind
 
   pub last_more : (before : List Call) (call : Call) → last config (before ++ (call ∷ [])) ≡ (applied (last config before) call).space
   unfolding turns_from last_of
@@ -68,9 +68,9 @@ module _ (config : Config) where
   pub turn_more : {turn : Turn} (before behind : List Call) → Memᴰ turn (turns config before) → Memᴰ turn (turns config (before ++ behind))
   turn_more before behind m = rw turns-append (Memᴰ.append_left _ m)
 
-  pub turn_at : {turn : Turn} (calls : List Call) → Memᴰ turn (turns config calls) → TurnAt (fresh_of config).space calls turn
+  pub turn_at : {turn : Turn} (calls : List Call) → Memᴰ turn (turns config calls) → TurnAt (fresh_space config) calls turn
   unfolding turns
-  turn_at calls m = comes (fresh_of config).space calls m
+  turn_at calls m = comes (fresh_space config) calls m
 
   -- what holds of each call of a list, on the space that the calls before it left, holds of each turn
   pub by_turn : (P : List Call → Turn → Type 0)

@@ -14,7 +14,7 @@ use Rattle.runs.specs.Laws.{WrongRule}
 use Rattle.runs.proofs.Monitoring.{monitored-append, wrong-right}
 use Rattle.space.specs.declared.config.Config.{Config}
 use Rattle.space.specs.declared.space.Space.{Space}
-use Rattle.space.specs.Spaces.{fresh_of}
+use Rattle.space.specs.Spaces.{fresh_space}
 use Rattle.calls.specs.Turns.{applied, turns_from, turns}
 use Rattle.tuple.specs.declared.field.Call.{Call}
 
@@ -87,7 +87,7 @@ module _ (config : Config) (q : ℕ) where
 pub wrong-rule : WrongRule
 unfolding monitored turns turns_from watched
 wrong-rule config calls q number some few = (
-  λ h. let f = strays config q 1 unbegun (fresh_of config).space calls h in
+  λ h. let f = strays config q 1 unbegun (fresh_space config) calls h in
       record {
         before = f.before;
         call = f.call;
@@ -98,7 +98,7 @@ wrong-rule config calls q number some few = (
         own = f.own;
         undue = f.undue;
       },
-  λ f. let size : 1 + length (turns config f.before) ≡ number = omega (arith, turns-length (fresh_of config).space f.before, f.counted) in
+  λ f. let size : 1 + length (turns config f.before) ≡ number = omega (arith, turns-length (fresh_space config) f.before, f.counted) in
       let same : monitored config (f.before ++ (f.call ∷ f.behind)) q ≡ wrong number =
       monitored-append config q f.before (f.call ∷ f.behind) ∙ rw (f.correct.stands, eq-eqb f.call.process q f.own, f.undue, size) in
       rw f.split same,

@@ -1,17 +1,19 @@
 -- Document 01, "Runs": when a process is correct (01's "follows"). A monitor goes over the turns under its number: between rounds it may only
 -- make the out that `started` gives for some round not yet begun and some offset; within a round only the call that the last `started` or
 -- `resumed` gave; the space's reply is handed to that state. It may stop anywhere.
-use Rattle.std.specs.Prelude.{◌≡◌, ℕ, zero, suc, ◌+◌, ◌≤◌, Bool, true, false, cond, not, ◌&&◌, ◌||◌, List, [], ◌∷◌, eqb}
+use Rattle.std.specs.Prelude.{◌≡◌, ℕ, zero, suc, ◌+◌, ◌≤◌, Bool, true, false, cond, not, ◌&&◌, ◌||◌, List, [], ◌∷◌, eqb, Err, Ok, Result}
 use Rattle.process.specs.declared.process.Next.{Next}
-use Rattle.process.specs.declared.process.Next.TheVariants.{Calls, Decides, Refuses}
+use Rattle.process.specs.declared.process.Next.TheVariants.{Calls, Decides}
 use Rattle.process.specs.declared.process.Process.{Process}
 use Rattle.process.specs.declared.process.Step.{Step}
 use Rattle.process.specs.Procedure.{started, resumed}
+use Rattle.process.specs.States.{blank_process}
 use Rattle.space.specs.declared.config.Config.{Config}
 use Rattle.space.specs.Shapes.{proposed_code, round_of}
 use Rattle.calls.specs.Turns.{Turn, turns}
 use Rattle.tuple.specs.declared.field.Tuple.{Tuple}
 use Rattle.tuple.specs.declared.field.Call.{Call}
+use Rattle.tuple.specs.declared.refusal.Refusal.{Refusal}
 use Rattle.tuple.specs.declared.reply.Reply.{Reply}
 use Rattle.tuple.specs.Equality.{same_call}
 use Rattle.tuple.specs.Offsets.{offset_of}
@@ -39,38 +41,49 @@ listed round (one ∷ rest) = eqb one round || listed round rest
 -- ---- one turn of its own
 
 -- what starting the process with the round and the offset of a proposal gives
-abbrev pub started_by : Config → ℕ → Tuple → Step
+abbrev pub started_by : Config → ℕ → Tuple → Result Step Refusal
 started_by config process entry = started config process (round_of entry) (offset_of (proposed_code entry))
 
-abbrev pub is_calls : Next → Bool
-is_calls Calls = true
-is_calls (Decides offset) = false
-is_calls (Refuses why) = false
+-- what came gives this call
+abbrev pub gives : Next → Call → Bool
+gives (Calls next) call = same_call next call
+gives (Decides offset) call = false
+
+abbrev pub begins : Result Step Refusal → Call → Bool
+begins (Ok step) call = gives step.next call
+begins (Err why) call = false
+
+-- the state that a start gives, blank where it is refused
+abbrev pub begun : Result Step Refusal → Process
+begun (Ok step) = step.process
+begun (Err why) = blank_process
 
 -- the call is one that it may make
 abbrev pub due : Config → ℕ → List ℕ → Standing → Call → Bool
 due config process entered idle call =
-    is_calls (started_by config process call.entry).next && same_call (started_by config process call.entry).call call
-    && not (listed (round_of call.entry) entered)
+    begins (started_by config process call.entry) call && not (listed (round_of call.entry) entered)
 due config process entered (busy state next) call = same_call next call
 due config process entered (stuck state) call = false
 
 -- the state to which the reply to a due call is handed
 abbrev pub state_of : Config → ℕ → Standing → Call → Process
-state_of config process idle call = (started_by config process call.entry).process
+state_of config process idle call = begun (started_by config process call.entry)
 state_of config process (busy state next) call = state
 state_of config process (stuck state) call = state
 
 -- where the process stands after the handing
-abbrev pub handed : Process → Step → Next → Standing
-handed state step Calls = busy step.process step.call
-handed state step (Decides offset) = idle
-handed state step (Refuses why) = stuck state
+abbrev pub went_on : Process → Next → Standing
+went_on state (Calls next) = busy state next
+went_on state (Decides offset) = idle
+
+abbrev pub handed : Process → Result Step Refusal → Standing
+handed state (Ok step) = went_on step.process step.next
+handed state (Err why) = stuck state
 
 abbrev pub took_turn : Config → ℕ → Watch → Call → Reply → Watch
 took_turn config process watch call reply =
     let state = state_of config process watch.standing call in
-    record { entered = state.round ∷ watch.entered; standing = handed state (resumed state reply) (resumed state reply).next }
+    record { entered = state.round ∷ watch.entered; standing = handed state (resumed state reply) }
 
 -- ---- all of its turns
 

@@ -1,9 +1,10 @@
 -- Document 01, "Runs": what is proposed and decided in a run.
-use Rattle.std.specs.Prelude.{◌≡◌, ℕ, ◌+◌, Bool, true, false, cond, ◌&&◌, ◌||◌, eqb}
+use Rattle.std.specs.Prelude.{◌≡◌, ℕ, ◌+◌, Bool, true, false, cond, ◌&&◌, ◌||◌, eqb, Err, Ok, Result}
 use mathlib.Core.List.{List, [], ◌∷◌, ◌++◌, Memᴰ}
 use Rattle.process.specs.declared.process.Next.{Next}
-use Rattle.process.specs.declared.process.Next.TheVariants.{Calls, Decides, Refuses}
+use Rattle.process.specs.declared.process.Next.TheVariants.{Calls, Decides}
 use Rattle.process.specs.declared.process.Process.{Process}
+use Rattle.process.specs.declared.process.Step.{Step}
 use Rattle.process.specs.Procedure.{resumed}
 use Rattle.runs.specs.Correct.{Watch, unbegun, state_of, took_turn, is_own, Correct}
 use Rattle.space.specs.declared.config.Config.{Config}
@@ -12,6 +13,7 @@ use Rattle.space.specs.Shapes.{process_of, proposed_code, round_of, is_proposal}
 use Rattle.calls.specs.Turns.{Turn, turns}
 use Rattle.tuple.specs.declared.field.Call.{Call}
 use Rattle.tuple.specs.declared.offset.Offset.{Offset}
+use Rattle.tuple.specs.declared.refusal.Refusal.{Refusal}
 use Rattle.tuple.specs.declared.reply.Outcome.{Outcome}
 use Rattle.tuple.specs.declared.reply.Outcome.TheVariants.{Done, None, Found, Inserted, Held, Refused}
 use Rattle.tuple.specs.Fields.{out}
@@ -62,10 +64,13 @@ pub record Decision : Type 0 where
   pub offset : Offset
 
 -- what a handing gives: one, or none
-abbrev pub decision_in : Process → Next → List Decision
-decision_in state Calls = []
-decision_in state (Decides offset) = record { round = state.round; offset = offset } ∷ []
-decision_in state (Refuses why) = []
+abbrev pub decision_of : ℕ → Next → List Decision
+decision_of round (Calls call) = []
+decision_of round (Decides offset) = record { round = round; offset = offset } ∷ []
+
+abbrev pub decision_in : Process → Result Step Refusal → List Decision
+decision_in state (Ok step) = decision_of state.round step.next
+decision_in state (Err why) = []
 
 -- what the handings in a correct process's own turns give, the last one first
 unfoldable pub decisions_over : Config → ℕ → Watch → List Turn → List Decision
@@ -73,7 +78,7 @@ decisions_over config process watch [] = []
 decisions_over config process watch (turn ∷ rest) =
     let state = state_of config process watch.standing turn.call in
     cond (is_own process turn)
-    (decisions_over config process (took_turn config process watch turn.call turn.reply) rest ++ decision_in state (resumed state turn.reply).next)
+    (decisions_over config process (took_turn config process watch turn.call turn.reply) rest ++ decision_in state (resumed state turn.reply))
     (decisions_over config process watch rest)
 
 unfoldable pub decisions_of : Config → List Call → ℕ → List Decision

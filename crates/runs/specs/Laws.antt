@@ -1,9 +1,10 @@
 -- What keeps the theorem from being empty, and the facts behind its fields, as claims over the definitions.
-use Rattle.std.specs.Prelude.{◌≡◌, Bool, true, false, not, ◌||◌, ◌↔◌, ◌⊎◌, ℕ, ◌+◌, ◌-◌, ◌*◌, ◌≤◌, ◌<◌, eqb, pos, length}
+use Rattle.std.specs.Prelude.{◌≡◌, Bool, true, false, not, ◌||◌, ◌↔◌, ◌⊎◌, ℕ, ◌+◌, ◌-◌, ◌*◌, ◌≤◌, ◌<◌, eqb, pos, length, Ok}
 use mathlib.Core.List.{List, [], ◌∷◌, ◌++◌, Memᴰ}
 use Rattle.std.specs.Int.Count.{ones}
 use Rattle.process.specs.declared.process.Next.TheVariants.{Calls, Decides}
 use Rattle.process.specs.declared.process.Process.{Process}
+use Rattle.process.specs.declared.process.Step.{Step}
 use Rattle.process.specs.Fits.{fits}
 use Rattle.process.specs.Laws.{MayPropose}
 use Rattle.process.specs.Procedure.{started, resumed}
@@ -12,13 +13,11 @@ use Rattle.runs.specs.Correct.Standing.{idle, busy, stuck}
 use Rattle.runs.specs.Decisions.{Decision, DoneProposal, has_done_proposal, decisions_of, GivenOut, HasDecided, calls_of}
 use Rattle.runs.specs.Theorem.{SoundConfig, FewFaulty}
 use Rattle.space.specs.declared.config.Config.{Config}
-use Rattle.space.specs.declared.space.Opening.TheVariants.{Stands}
 use Rattle.policy.specs.Shapes.{decided_code}
 use Rattle.space.specs.Configs.{sound}
 use Rattle.space.specs.Members.{Member, within, counted}
-use Rattle.space.specs.Spaces.{space_of, fresh_of}
+use Rattle.space.specs.Spaces.{space_of, fresh_of, fresh_space}
 use Rattle.policy.specs.Laws.{DecisionCall, BearsOffset, BearsBottom}
-use Rattle.policy.specs.declared.verdicts.Verdict.TheVariants.{Permit}
 use Rattle.policy.specs.Policies.{verdict_on}
 use Rattle.tuple.specs.Offsets.{bottom, code_of}
 use Rattle.calls.specs.Turns.{last, Turn, applied, turns}
@@ -67,7 +66,7 @@ OutDoneRule = (list : List Turn) (round process : ℕ) (offset : Offset) → Don
 -- the turns of calls and the space that they leave: of none, none and the fresh space; with one call more, one turn more, of that call on the space that the
 -- others left
 pub record TurnsRule (config : Config) : Type 0 where
-  pub none : (turns config [] ≡ []) × (last config [] ≡ (fresh_of config).space)
+  pub none : (turns config [] ≡ []) × (last config [] ≡ fresh_space config)
   pub more : (calls : List Call) (call : Call)
       → (turns config (calls ++ (call ∷ []))
       ≡ turns config calls ++ (record { call = call; reply = (applied (last config calls) call).reply; space = (applied (last config calls) call).space } ∷ []))
@@ -100,8 +99,8 @@ EnteredRule = (round : ℕ) (rounds : List ℕ) → (listed round rounds ≡ tru
 -- between rounds the out that starting gives, for a round not begun before and an offset of its choice; in a round the call that the last starting or
 -- handing gave; and nothing else
 pub data MayCall (config : Config) (process : ℕ) (entered : List ℕ) (call : Call) : Standing → Type 0 where
-  begins : (round : ℕ) (offset : Offset) → (Memᴰ round entered → ⊥) → (started config process round offset).next ≡ Calls
-      → (started config process round offset).call ≡ call → MayCall config process entered call idle
+  begins : (round : ℕ) (offset : Offset) (step : Step) → (Memᴰ round entered → ⊥) → started config process round offset ≡ Ok step → step.next ≡ Calls call
+      → MayCall config process entered call idle
   goes_on : (state : Process) → MayCall config process entered call (busy state call)
 
 abbrev pub DueRule : Type 0
@@ -112,8 +111,8 @@ DueRule =
 -- a reply is handed to a state, in its round: where the next call comes back, that is due; where a decision does, it is given, and the round is over
 pub record HandedOn (state : Process) (reply : Reply) (before after : Watch) (given now : List Decision) : Type 0 where
   pub entered : after.entered ≡ state.round ∷ before.entered
-  pub goes : (resumed state reply).next ≡ Calls → (after.standing ≡ busy (resumed state reply).process (resumed state reply).call) × (now ≡ given)
-  pub ends : (offset : Offset) → (resumed state reply).next ≡ Decides offset → (after.standing ≡ idle) × (now ≡ record { round = state.round; offset = offset } ∷ given)
+  pub goes : (step : Step) (call : Call) → resumed state reply ≡ Ok step → step.next ≡ Calls call → (after.standing ≡ busy step.process call) × (now ≡ given)
+  pub ends : (step : Step) (offset : Offset) → resumed state reply ≡ Ok step → step.next ≡ Decides offset → (after.standing ≡ idle) × (now ≡ record { round = state.round; offset = offset } ∷ given)
 
 pub record MonitorRule (config : Config) (process : ℕ) : Type 0 where
   -- before all calls it is correct exactly if it is one of 1 to n; it has begun no round, and given no decision
@@ -129,11 +128,11 @@ pub record MonitorRule (config : Config) (process : ℕ) : Type 0 where
       → Correct config (calls ++ (call ∷ [])) process
       ↔ ((c : Correct config calls process) × MayCall config process c.watch.entered call c.watch.standing)
   -- the reply to the first call of a round is handed to the state that starting gave
-  pub first : (calls : List Call) (round : ℕ) (offset : Offset) (c : Correct config calls process) → c.watch.standing ≡ idle
-      → (started config process round offset).next ≡ Calls
-      → (d : Correct config (calls ++ ((started config process round offset).call ∷ [])) process)
-      → HandedOn (started config process round offset).process (applied (last config calls) (started config process round offset).call).reply c.watch d.watch
-      (decisions_of config calls process) (decisions_of config (calls ++ ((started config process round offset).call ∷ [])) process)
+  pub first : (calls : List Call) (round : ℕ) (offset : Offset) (step : Step) (call : Call) (c : Correct config calls process) → c.watch.standing ≡ idle
+      → started config process round offset ≡ Ok step → step.next ≡ Calls call
+      → (d : Correct config (calls ++ (call ∷ [])) process)
+      → HandedOn step.process (applied (last config calls) call).reply c.watch d.watch
+      (decisions_of config calls process) (decisions_of config (calls ++ (call ∷ [])) process)
   -- and that to a later one to the state that gave it
   pub next : (calls : List Call) (call : Call) (state : Process) (c : Correct config calls process) → c.watch.standing ≡ busy state call → call.process ≡ process
       → (d : Correct config (calls ++ (call ∷ [])) process)
@@ -204,7 +203,7 @@ Hypothesis = (config : Config) → SoundConfig config ↔ ((sound config ≡ tru
 
 -- the fresh space of such a configuration stands, and holds nothing
 abbrev pub Opens : Type 0
-Opens = (config : Config) → SoundConfig config → fresh_of config ≡ record { opening = Stands; space = space_of config [] }
+Opens = (config : Config) → SoundConfig config → (fresh_of config ≡ Ok (space_of config [])) × (fresh_space config ≡ space_of config [])
 
 -- ---- what a decision rests on
 
@@ -219,7 +218,7 @@ PermittedCas =
     (config : Config) (tuples : List Tuple) (call : Call)
     → SoundConfig config
     → call.code ≡ cas
-    → (verdict_on config tuples call ≡ Permit) ↔ (DecisionCall config call × Bears config tuples call.entry)
+    → (verdict_on config tuples call ≡ Ok tt) ↔ (DecisionCall config call × Bears config tuples call.entry)
 
 -- ---- under policy 3
 
@@ -300,9 +299,9 @@ Waiting =
 -- for any round not begun. A call under its number leaves the others what they were
 pub record GoesOn (config : Config) (calls : List Call) (process : ℕ) (watch : Watch) : Type 0 where
   pub within : (state : Process) (call : Call) → watch.standing ≡ busy state call → (call.process ≡ process) × Correct config (calls ++ (call ∷ [])) process
-  pub between : (round : ℕ) (offset : Offset) → watch.standing ≡ idle → listed round watch.entered ≡ false → (started config process round offset).next ≡ Calls
-      → ((started config process round offset).call.process ≡ process)
-      × Correct config (calls ++ ((started config process round offset).call ∷ [])) process
+  pub between : (round : ℕ) (offset : Offset) (step : Step) (call : Call) → watch.standing ≡ idle → listed round watch.entered ≡ false
+      → started config process round offset ≡ Ok step → step.next ≡ Calls call
+      → (call.process ≡ process) × Correct config (calls ++ (call ∷ [])) process
   pub others : (call : Call) (other : ℕ) → call.process ≡ process → (other ≡ process → ⊥)
       → monitored config (calls ++ (call ∷ [])) other ≡ monitored config calls other
 

@@ -19,8 +19,8 @@ use Rattle.text.specs.Digits.{decimal}
 use Rattle.text.specs.Lines.{cut_from, lines_of}
 use Rattle.text.specs.Texts.{gap, spaced, refusal_text, reply_text, refused_line}
 use Rattle.text.proofs.FeedLaws.{Plain, plain, plain-test, plain-both, line_first, decimal-plain, spaced-plain, refusal-plain, reply-lines}
-use Rattle.tuple.specs.declared.fault.Fault.{Fault}
-use Rattle.tuple.specs.declared.fault.Fault.TheVariants.{Absent, Present}
+use Rattle.std.specs.Prelude.{Err, Ok}
+use Rattle.tuple.specs.Refusals.{Verdict}
 use Rattle.tuple.specs.declared.refusal.Refusal.{Refusal}
 
 choices-plain : (config : Config) → Plain (choices_text config)
@@ -54,11 +54,11 @@ held-last space =
     let count = spaced (length (held space)) in
     line_first (tuples_text ++ count) [] (plain-both tuples_text count (plain-test tuples_text refl) (spaced-plain (length (held space))))
 
-lines-all : (number : ℕ) (made : List Turn) (fault : Fault) (space : Space)
+lines-all : (number : ℕ) (made : List Turn) (fault : Verdict) (space : Space)
     → lines_of (lines_from number made fault space) ≡ numbered number made ++ (unread (number + length made) fault ++ ((tuples_text ++ spaced (length (held space))) ∷ []))
 unfolding lines_from numbered unread
-lines-all number [] Absent space = held-last space
-lines-all number [] (Present why) space =
+lines-all number [] (Ok _) space = held-last space
+lines-all number [] (Err why) space =
     let same : number + 0 ≡ number = omega arith in
     rw same (unread-first number why (held_line space) ∙ ap (λ (l : List (List ℕ)). (decimal number ++ (gap ++ refusal_text why)) ∷ l) (held-last space))
 lines-all number (turn ∷ made) fault space =

@@ -26,12 +26,10 @@ use Rattle.space.proofs.SpaceRules.{stands, held-lawful}
 use Rattle.text.specs.Texts.{fields_text, tuple_text, outcome_text, reply_text, reply_line}
 use Rattle.text.proofs.DigitLaws.{decimal-most}
 use Rattle.text.proofs.LengthLaws.{spaced-most, field-most, refusal-most, reply-length, refused-most}
-use Rattle.tuple.specs.declared.fault.Fault.TheVariants.{Absent}
+use Rattle.std.specs.Prelude.{None, Ok, Option, Some}
 use Rattle.tuple.specs.declared.field.Field.{Field}
 use Rattle.tuple.specs.declared.field.Tuple.{Tuple}
 use Rattle.tuple.specs.declared.field.Call.{Call}
-use Rattle.tuple.specs.declared.matching.Found.{Found}
-use Rattle.tuple.specs.declared.matching.Found.TheVariants.{At, Nowhere}
 use Rattle.tuple.specs.declared.refusal.Refusal.{Refusal}
 use Rattle.tuple.specs.declared.reply.Outcome.{Outcome}
 use Rattle.tuple.specs.declared.reply.Outcome.TheVariants as outcome
@@ -47,7 +45,7 @@ use Rattle.varint.proofs.WritingLaws.{width-least}
 
 -- ---- fields
 
-fields-most : (fields : List Field) → fields_fault true fields ≡ Absent → length (fields_text fields) ≤ 22 * length fields
+fields-most : (fields : List Field) → fields_fault true fields ≡ Ok tt → length (fields_text fields) ≤ 22 * length fields
 unfolding fields_text
 fields-most [] h = omega arith
 fields-most (field ∷ fields) h =
@@ -96,7 +94,7 @@ unfolding fields_bytes
 fields-least [] = omega arith
 fields-least (field ∷ fields) = simp length-append (omega (arith, head-room field, width-least (head_number field), fields-least fields))
 
-part-least : (used : Bool) (tuple : Tuple) → length tuple.fields ≡ places → part_fault tuple used false ≡ Absent
+part-least : (used : Bool) (tuple : Tuple) → length tuple.fields ≡ places → part_fault tuple used false ≡ Ok tt
     → cond used (1 + tuple.count) 0 ≤ length (part_bytes used tuple)
 unfolding part_bytes part_fault
 part-least false tuple long sound = omega arith
@@ -104,7 +102,7 @@ part-least true tuple long sound =
     let few = (tuple-sound false tuple sound).few in
     omega (arith, tuple-length tuple, width-least tuple.count, fields-least (take tuple.count tuple.fields), length-take tuple.count tuple.fields)
 
-call-least : (call : Call) → Typed call → call_fault call ≡ Absent → 2 + cond (uses_template call.code) (1 + call.template.count) 0 ≤ length (call_bytes call)
+call-least : (call : Call) → Typed call → call_fault call ≡ Ok tt → 2 + cond (uses_template call.code) (1 + call.template.count) 0 ≤ length (call_bytes call)
 call-least call typed sound =
     omega (
       arith,
@@ -115,16 +113,16 @@ call-least call typed sound =
     )
 
 -- a template has one field to six
-template-range : (call : Call) → call_fault call ≡ Absent → uses_template call.code ≡ true → (1 ≤ call.template.count) × (call.template.count ≤ places)
+template-range : (call : Call) → call_fault call ≡ Ok tt → uses_template call.code ≡ true → (1 ≤ call.template.count) × (call.template.count ≤ places)
 unfolding part_fault
 template-range call sound uses =
-    let fault : tuple_fault false call.template ≡ Absent = rw uses at (call-sound call sound).template.fault in
+    let fault : tuple_fault false call.template ≡ (Ok tt) = rw uses at (call-sound call sound).template.fault in
     let range = tuple-sound false call.template fault in
     (range.some, range.few)
 
 module _ (tuples : List Tuple) (call : Call) (entries : Entries tuples) where
   -- a tuple that matches has as many fields as the template
-  found-most : (i : ℕ) → oldest_of tuples call.template ≡ At i → length (tuple_text (get_or tuples i blank_tuple)) ≤ 22 * call.template.count
+  found-most : (i : ℕ) → oldest_of tuples call.template ≡ Some i → length (tuple_text (get_or tuples i blank_tuple)) ≤ 22 * call.template.count
   unfolding matches
   found-most i e =
       let oldest = (oldest-rule.at tuples call.template i).0 e in
@@ -148,22 +146,22 @@ module _ (tuples : List Tuple) (call : Call) (entries : Entries tuples) where
   unfolding asked
   asks some uses = rw uses (answer-found call.template.count some)
 
-  rdp-short : 1 ≤ call.template.count → uses_template call.code ≡ true → (found : Found) → oldest_of tuples call.template ≡ found → Short (rdp_effect tuples found)
+  rdp-short : 1 ≤ call.template.count → uses_template call.code ≡ true → (found : (Option ℕ)) → oldest_of tuples call.template ≡ found → Short (rdp_effect tuples found)
   unfolding Short outcome_text
-  rdp-short some uses (At i) e = omega (arith, asks some uses, found-most i e)
-  rdp-short some uses Nowhere e = omega (arith, answer-least (asked call))
+  rdp-short some uses (Some i) e = omega (arith, asks some uses, found-most i e)
+  rdp-short some uses None e = omega (arith, answer-least (asked call))
 
-  inp-short : 1 ≤ call.template.count → uses_template call.code ≡ true → (found : Found) → oldest_of tuples call.template ≡ found → Short (inp_effect tuples found)
+  inp-short : 1 ≤ call.template.count → uses_template call.code ≡ true → (found : (Option ℕ)) → oldest_of tuples call.template ≡ found → Short (inp_effect tuples found)
   unfolding Short outcome_text
-  inp-short some uses (At i) e = omega (arith, asks some uses, found-most i e)
-  inp-short some uses Nowhere e = omega (arith, answer-least (asked call))
+  inp-short some uses (Some i) e = omega (arith, asks some uses, found-most i e)
+  inp-short some uses None e = omega (arith, answer-least (asked call))
 
-  cas-short : 1 ≤ call.template.count → uses_template call.code ≡ true → (found : Found) → oldest_of tuples call.template ≡ found → Short (cas_effect tuples found)
+  cas-short : 1 ≤ call.template.count → uses_template call.code ≡ true → (found : (Option ℕ)) → oldest_of tuples call.template ≡ found → Short (cas_effect tuples found)
   unfolding Short outcome_text
-  cas-short some uses (At i) e = omega (arith, asks some uses, found-most i e)
-  cas-short some uses Nowhere e = append-short outcome.Inserted (omega arith)
+  cas-short some uses (Some i) e = omega (arith, asks some uses, found-most i e)
+  cas-short some uses None e = append-short outcome.Inserted (omega arith)
 
-  effect-short : call_fault call ≡ Absent → Short (effect tuples call)
+  effect-short : call_fault call ≡ Ok tt → Short (effect tuples call)
   unfolding effect uses_template outcome_text
   effect-short sound =
       let found = oldest_of tuples call.template in

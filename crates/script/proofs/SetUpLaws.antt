@@ -11,38 +11,28 @@ use lib.ListN.{length, drop, length-append}
 use lib.Seq.{drop-drop, drop-append_seam}
 use borrow.Author.Tests.{eqb-true, eqb-false, ne_eqb}
 use borrow.Table.Steps.{cases}
-use Rattle.script.specs.declared.setup.ReadConfig.{ReadConfig}
 use Rattle.script.specs.Laws.{SetUpForm, SetUpRead, SetUpStands, SetUpOnly, SetUpWritten, SetUpStops, SetUpFaults, SetUpCut}
 use Rattle.script.specs.Laws.SetUpForm.{without-k, with-k}
 use Rattle.script.specs.Laws.SetUpStops.{n-unread, t-unread, policy-unread, k-unread}
-use Rattle.script.specs.Scripts.{no_config, k_step, behind_policy, policy_step, t_step, config_of, set_up_bytes}
-use Rattle.record.specs.declared.reader.Next.{Next}
-use Rattle.record.specs.declared.reader.Next.TheVariants.{Refused}
+use Rattle.script.specs.Scripts.{k_step, behind_policy, policy_step, t_step, n_step, config_of, set_up_bytes}
 use Rattle.record.specs.FirstFault.{Unread}
 use Rattle.record.specs.FirstFault.Unread.{cut, overlong}
-use Rattle.record.specs.Reading.{place, onward, number_step, read_number}
+use Rattle.record.specs.Reading.{Reading, taken, onward, number_step, read_number}
 use Rattle.record.proofs.FirstFault.{first-faults}
 use Rattle.record.proofs.ReadBack.{number-back}
 use Rattle.space.specs.declared.config.Config.{Config}
 use Rattle.tuple.specs.declared.refusal.Refusal.{Refusal}
 use Rattle.tuple.specs.Refusals.{number_of, refusal}
 use Rattle.tuple.proofs.RefusalLaws.{numbered, numbered-back}
-use Rattle.varint.specs.declared.Number.{Number}
-use Rattle.varint.specs.declared.Number.TheVariants.{Value, Cut, Overlong}
+use Rattle.std.specs.Prelude.{Err, Ok}
+use Rattle.varint.specs.Reading.{Read}
+use Rattle.varint.specs.declared.ReadError.TheVariants.{Cut, Overlong}
 use Rattle.varint.specs.Reading.{largest, last_group, further, number_from, number_at, Bytes}
 use Rattle.varint.specs.Writing.{bytes_of, width_of}
 use Rattle.varint.proofs.ReadingLaws.{only-form}
 
--- what reading a set-up gives
-abbrev reads : Config → ℕ → ReadConfig
-reads config next = record { next = place next; config = config }
-
 abbrev with : ℕ → ℕ → ℕ → ℕ → Config
 with n t policy k = record { n = n; t = t; policy = policy; k = k }
-
--- the place behind the set-up, or 0
-abbrev end : ReadConfig → ℕ
-end read = onward read.next (λ at. at) (λ next. 0)
 
 -- what stands behind a part
 behind : (s a b : List ℕ) (at : ℕ) → drop at s ≡ a ++ b → drop (at + length a) s ≡ b
@@ -83,24 +73,25 @@ ends : (a b : List ℕ) (at : ℕ) → at ≡ length a → at + length b ≡ len
 ends a b at same = rw (length-append a b, same)
 
 -- behind another policy than 3 no k is read
-no-k-read : (s : List ℕ) (config : Config) (at : ℕ) → (config.policy ≡ 3 → ⊥) → behind_policy s config at ≡ reads config at
-no-k-read s config at other = ap (λ (three : Bool). cond three (k_step config (read_number s at)) (reads config at)) (ne_eqb config.policy 3 other)
+no-k-read : (s : List ℕ) (config : Config) (at : ℕ) → (config.policy ≡ 3 → ⊥) → behind_policy s config at ≡ taken config at
+no-k-read s config at other = ap (λ (three : Bool). cond three (onward (read_number s at) (k_step config)) (taken config at)) (ne_eqb config.policy 3 other)
 
 pub set-up-read : SetUpRead
 set-up-read config bytes rest (without-k n t policy few-n few-t few-policy other) =
     let front = bytes_of n ++ bytes_of t ++ bytes_of policy in
     front_read n t policy rest few-n few-t few-policy
     ∙ no-k-read (front ++ rest) (with n t policy 0) (past n t policy rest few-n few-t few-policy) other
-    ∙ ap (reads config) (past-front n t policy rest few-n few-t few-policy)
+    ∙ ap (taken config) (past-front n t policy rest few-n few-t few-policy)
 set-up-read config bytes rest (with-k n t k few-n few-t few-k) =
     let front = bytes_of n ++ bytes_of t ++ bytes_of 3 in
     let tail = bytes_of k ++ rest in
     let few : 3 ≤ largest = omega arith in
     let at = past n t 3 tail few-n few-t few in
-    let read : read_number (front ++ tail) at ≡ record { next = place (at + width_of k); value = k } =
+    let read : read_number (front ++ tail) at ≡ taken k (at + width_of k) =
     number-back (front ++ tail) rest at k few-k (at_tail n t 3 tail few-n few-t few) in
-    let whole : config_of (front ++ tail) ≡ reads config (at + width_of k) = front_read n t 3 tail few-n few-t few ∙ ap (k_step (with n t 3 0)) read in
-    rw (append_assoc front (bytes_of k) rest) (whole ∙ ap (reads config) (ends front (bytes_of k) at (past-front n t 3 tail few-n few-t few)))
+    let whole : config_of (front ++ tail) ≡ taken config (at + width_of k) =
+    front_read n t 3 tail few-n few-t few ∙ ap (λ (r : Reading ℕ). onward r (k_step (with n t 3 0))) read in
+    rw (append_assoc front (bytes_of k) rest) (whole ∙ ap (taken config) (ends front (bytes_of k) at (past-front n t 3 tail few-n few-t few)))
 
 pub set-up-written : SetUpWritten
 unfolding set_up_bytes
@@ -116,41 +107,41 @@ set-up-written config w =
 
 -- ---- what every script's first bytes read as
 
-data Seen (s : List ℕ) : ReadConfig → Type 0 where
-  stops : (r : ℕ) → SetUpStops s r → Seen s (no_config (Refused (refusal r)))
-  three : (n a t b policy c : ℕ) → number_at s 0 ≡ Value n a → number_at s a ≡ Value t b → number_at s b ≡ Value policy c → (policy ≡ 3 → ⊥)
-      → Seen s (reads (with n t policy 0) c)
-  four : (n a t b c k d : ℕ) → number_at s 0 ≡ Value n a → number_at s a ≡ Value t b → number_at s b ≡ Value 3 c → number_at s c ≡ Value k d
-      → Seen s (reads (with n t 3 k) d)
+data Seen (s : List ℕ) : Reading Config → Type 0 where
+  stops : (r : ℕ) → SetUpStops s r → Seen s (Err (refusal r))
+  three : (n a t b policy c : ℕ) → number_at s 0 ≡ Ok (n, a) → number_at s a ≡ Ok (t, b) → number_at s b ≡ Ok (policy, c) → (policy ≡ 3 → ⊥)
+      → Seen s (taken (with n t policy 0) c)
+  four : (n a t b c k d : ℕ) → number_at s 0 ≡ Ok (n, a) → number_at s a ≡ Ok (t, b) → number_at s b ≡ Ok (3, c) → number_at s c ≡ Ok (k, d)
+      → Seen s (taken (with n t 3 k) d)
 
 module _ (s : List ℕ) where
-  module _ (n a : ℕ) (is-n : number_at s 0 ≡ Value n a) where
-    module _ (t b : ℕ) (is-t : number_at s a ≡ Value t b) where
-      by-k : (c : ℕ) → number_at s b ≡ Value 3 c → (number : Number) → number_at s c ≡ number → Seen s (k_step (with n t 3 0) (number_step number))
-      by-k c is-3 (Value k d) e = four n a t b c k d is-n is-t is-3 e
-      by-k c is-3 Cut e = stops 2 (k-unread n a t b c 2 is-n is-t is-3 (cut e))
-      by-k c is-3 Overlong e = stops 3 (k-unread n a t b c 3 is-n is-t is-3 (overlong e))
+  module _ (n a : ℕ) (is-n : number_at s 0 ≡ Ok (n, a)) where
+    module _ (t b : ℕ) (is-t : number_at s a ≡ Ok (t, b)) where
+      by-k : (c : ℕ) → number_at s b ≡ Ok (3, c) → (number : Read) → number_at s c ≡ number → Seen s (onward (number_step number) (k_step (with n t 3 0)))
+      by-k c is-3 (Ok (k, d)) e = four n a t b c k d is-n is-t is-3 e
+      by-k c is-3 (Err Cut) e = stops 2 (k-unread n a t b c 2 is-n is-t is-3 (cut e))
+      by-k c is-3 (Err Overlong) e = stops 3 (k-unread n a t b c 3 is-n is-t is-3 (overlong e))
 
-      by-policy : (number : Number) → number_at s b ≡ number → Seen s (policy_step n t s (number_step number))
+      by-policy : (number : Read) → number_at s b ≡ number → Seen s (onward (number_step number) (policy_step s n t))
       unfolding read_number
-      by-policy (Value policy c) e =
+      by-policy (Ok (policy, c)) e =
           cases (eqb policy 3)
-          (λ is. rw (eqb-true policy 3 is) (by-k c (e ∙ ap (λ (p : ℕ). Value p c) (eqb-true policy 3 is)) (number_at s c) refl))
+          (λ is. rw (eqb-true policy 3 is) (by-k c (e ∙ ap (λ (p : ℕ). (Ok (p, c))) (eqb-true policy 3 is)) (number_at s c) refl))
           (λ other. let apart = eqb-false policy 3 other in rw (no-k-read s (with n t policy 0) c apart) (three n a t b policy c is-n is-t e apart))
-      by-policy Cut e = stops 2 (policy-unread n a t b 2 is-n is-t (cut e))
-      by-policy Overlong e = stops 3 (policy-unread n a t b 3 is-n is-t (overlong e))
+      by-policy (Err Cut) e = stops 2 (policy-unread n a t b 2 is-n is-t (cut e))
+      by-policy (Err Overlong) e = stops 3 (policy-unread n a t b 3 is-n is-t (overlong e))
 
-    by-t : (number : Number) → number_at s a ≡ number → Seen s (t_step n s (number_step number))
+    by-t : (number : Read) → number_at s a ≡ number → Seen s (onward (number_step number) (t_step s n))
     unfolding read_number
-    by-t (Value t b) e = by-policy t b e (number_at s b) refl
-    by-t Cut e = stops 2 (t-unread n a 2 is-n (cut e))
-    by-t Overlong e = stops 3 (t-unread n a 3 is-n (overlong e))
+    by-t (Ok (t, b)) e = by-policy t b e (number_at s b) refl
+    by-t (Err Cut) e = stops 2 (t-unread n a 2 is-n (cut e))
+    by-t (Err Overlong) e = stops 3 (t-unread n a 3 is-n (overlong e))
 
-  by_n : (number : Number) → number_at s 0 ≡ number → Seen s (onward (number_step number).next (λ next. t_step (number_step number).value s (read_number s next)) no_config)
+  by_n : (number : Read) → number_at s 0 ≡ number → Seen s (onward (number_step number) (n_step s))
   unfolding read_number
-  by_n (Value n a) e = by-t n a e (number_at s a) refl
-  by_n Cut e = stops 2 (n-unread 2 (cut e))
-  by_n Overlong e = stops 3 (n-unread 3 (overlong e))
+  by_n (Ok (n, a)) e = by-t n a e (number_at s a) refl
+  by_n (Err Cut) e = stops 2 (n-unread 2 (cut e))
+  by_n (Err Overlong) e = stops 3 (n-unread 3 (overlong e))
 
   seen : Seen s (config_of s)
   unfolding config_of read_number
@@ -158,9 +149,14 @@ module _ (s : List ℕ) where
 
 -- ---- only such bytes read
 
+-- what is claimed of a set-up that reads
+abbrev Stood : List ℕ → Reading Config → Type 0
+Stood s (Ok (config, cursor)) = SetUpStands s config cursor.at
+Stood s (Err why) = Unit {0}
+
 module _ (s : List ℕ) (bytes : Bytes s) where
   -- the numbers that every set-up has
-  module _ (n a t b policy c : ℕ) (is-n : number_at s 0 ≡ Value n a) (is-t : number_at s a ≡ Value t b) (is-policy : number_at s b ≡ Value policy c) where
+  module _ (n a t b policy c : ℕ) (is-n : number_at s 0 ≡ Ok (n, a)) (is-t : number_at s a ≡ Ok (t, b)) (is-policy : number_at s b ≡ Ok (policy, c)) where
     stood : s ≡ (bytes_of n ++ bytes_of t ++ bytes_of policy) ++ drop c s
     stood =
         (only-form s 0 n a bytes is-n).2
@@ -172,34 +168,27 @@ module _ (s : List ℕ) (bytes : Bytes s) where
         simp length-append
         (omega (arith, (only-form s 0 n a bytes is-n).1, (only-form s a t b bytes is-t).1, (only-form s b policy c bytes is-policy).1))
 
-  only : {read : ReadConfig} → Seen s read → (config : Config) (at : ℕ) → read ≡ reads config at → SetUpStands s config at
-  only (stops r why) config at e =
-      let apart : ◌≡◌ {A = Next} (Refused (refusal r)) (place at) = ap (λ (read : ReadConfig). read.next) e in
-      let z : ◌≡◌ {A = ℕ} 0 1 = cc in
-      absurd (omega arith)
-  only (three n a t b policy c is-n is-t is-policy other) config at e =
-      subst (λ (r : ReadConfig). SetUpStands s r.config at) e
-      (subst (SetUpStands s (with n t policy 0)) (ap end e)
-      (record {
+  only : {read : Reading Config} → Seen s read → Stood s read
+  only (stops r why) = tt
+  only (three n a t b policy c is-n is-t is-policy other) =
+      record {
         bytes = bytes_of n ++ bytes_of t ++ bytes_of policy;
         form = without-k n t policy (only-form s 0 n a bytes is-n).0 (only-form s a t b bytes is-t).0 (only-form s b policy c bytes is-policy).0 other;
         first = stood n a t b policy c is-n is-t is-policy;
         taken = took n a t b policy c is-n is-t is-policy;
-      }))
-  only (four n a t b c k d is-n is-t is-3 is-k) config at e =
+      }
+  only (four n a t b c k d is-n is-t is-3 is-k) =
       let front = bytes_of n ++ bytes_of t ++ bytes_of 3 in
       let form-k = only-form s c k d bytes is-k in
-      subst (λ (r : ReadConfig). SetUpStands s r.config at) e
-      (subst (SetUpStands s (with n t 3 k)) (ap end e)
-      (record {
+      record {
         bytes = front ++ bytes_of k;
         form = with-k n t k (only-form s 0 n a bytes is-n).0 (only-form s a t b bytes is-t).0 form-k.0;
         first = stood n a t b 3 c is-n is-t is-3 ∙ ap (λ (l : List ℕ). front ++ l) form-k.2 ∙ sym (append_assoc front (bytes_of k) (drop d s));
         taken = simp length-append (omega (arith, simp length-append at (took n a t b 3 c is-n is-t is-3), form-k.1));
-      }))
+      }
 
 pub set-up-only : SetUpOnly
-set-up-only s config at bytes e = only s bytes (seen s) config at e
+set-up-only s config at bytes e = subst (Stood s) e (only s bytes (seen s))
 
 -- ---- the first fault
 
@@ -208,7 +197,7 @@ unread-two-or-three : (s : List ℕ) (at r : ℕ) → Unread s at r → (r ≡ 2
 unread-two-or-three s at r (cut e) = inl refl
 unread-two-or-three s at r (overlong e) = inr refl
 
-number_read : (s : List ℕ) (at value next : ℕ) → number_at s at ≡ Value value next → read_number s at ≡ record { next = place next; value = value }
+number_read : (s : List ℕ) (at value next : ℕ) → number_at s at ≡ Ok (value, next) → read_number s at ≡ taken value next
 unfolding read_number
 number_read s at value next e = ap number_step e
 
@@ -222,7 +211,7 @@ module _ (s : List ℕ) where
   stops-number : (r : ℕ) → SetUpStops s r → number_of (refusal r) ≡ r
   stops-number r first = ⊎_elim (λ e. numbered-back r (omega arith) (omega arith)) (λ e. numbered-back r (omega arith) (omega arith)) (two-or-three r first)
 
-  met : (r : ℕ) → SetUpStops s r → config_of s ≡ no_config (Refused (refusal r))
+  met : (r : ℕ) → SetUpStops s r → config_of s ≡ Err (refusal r)
   unfolding config_of
   met r (n-unread q why) = rw ((first-faults s 0 r).number why)
   met r (t-unread n a q is-n why) = rw (number_read s 0 n a is-n, (first-faults s a r).number why)
@@ -230,21 +219,21 @@ module _ (s : List ℕ) where
   met r (k-unread n a t b c q is-n is-t is-3 why) =
       rw (number_read s 0 n a is-n, number_read s a t b is-t, number_read s b 3 c is-3, (first-faults s c r).number why)
 
-  stopped : {read : ReadConfig} (why : Refusal) → Seen s read → read.next ≡ Refused why → SetUpStops s (number_of why) × (read.config ≡ with 0 0 0 0)
-  stopped why (stops r first) e =
-      let same : refusal r ≡ why = cc in (subst (SetUpStops s) (sym (stops-number r first) ∙ ap number_of same) first, refl)
-  stopped why (three n a t b policy c is-n is-t is-policy other) e = let z : ◌≡◌ {A = ℕ} 0 1 = cc in absurd (omega arith)
-  stopped why (four n a t b c k d is-n is-t is-3 is-k) e = let z : ◌≡◌ {A = ℕ} 0 1 = cc in absurd (omega arith)
+  -- what is claimed of a set-up that is refused
+  abbrev Stopped : Reading Config → Type 0
+  Stopped (Ok (config, cursor)) = Unit {0}
+  Stopped (Err why) = SetUpStops s (number_of why)
+
+  stopped : {read : Reading Config} → Seen s read → Stopped read
+  stopped (stops r first) = subst (SetUpStops s) (sym (stops-number r first)) first
+  stopped (three n a t b policy c is-n is-t is-policy other) = tt
+  stopped (four n a t b c k d is-n is-t is-3 is-k) = tt
 
 pub set-up-faults : SetUpFaults
-set-up-faults s why =
-    record {
-      when = (
-        λ e. (stopped s why (seen s) e).0,
-        λ first. ap (λ (r : ReadConfig). r.next) (met s (number_of why) first) ∙ ap (λ (w : Refusal). Refused w) (numbered why),
-      );
-      blank = λ e. (stopped s why (seen s) e).1;
-    }
+set-up-faults s why = (
+  λ e. subst (Stopped s) e (stopped s (seen s)),
+  λ first. met s (number_of why) first ∙ ap (λ (w : Refusal). Err w) (numbered why),
+)
 
 pub set-up-cut : SetUpCut
 unfolding read_number number_at number_from
@@ -254,4 +243,4 @@ set-up-cut n t small_n small-t =
     let at = past n t 3 [] small_n small-t few in
     let none : read_number (front ++ []) at ≡ number_step (number_from last_group further [] at) =
     ap (λ (l : List ℕ). number_step (number_from last_group further l at)) (at_tail n t 3 [] small_n small-t few) in
-    rw (append-nil front) at (front_read n t 3 [] small_n small-t few ∙ ap (k_step (with n t 3 0)) none)
+    rw (append-nil front) at (front_read n t 3 [] small_n small-t few ∙ ap (λ (r : Reading ℕ). onward r (k_step (with n t 3 0))) none)

@@ -1,37 +1,45 @@
 -- One record of a script on a well-formed space: it makes the turn of its call, or ends the script. From the laws of records and of calls.
-use mathlib.Core.Path.{◌≡◌, refl, ap, ◌∙◌}
-use Prim.Native.Nat.{ℕ}
+use mathlib.Core.Path.{◌≡◌, refl, ◌∙◌, subst}
+use mathlib.Core.Bool.{true}
+use Prim.Native.Nat.{ℕ, ◌<◌}
 use mathlib.Core.List.{List}
+use lib.ListN.{length}
 use native.Mathlib.Omega.{arith}
-use Rattle.script.specs.declared.steps.Stepped.{Stepped}
-use Rattle.script.specs.Laws.{StepRules}
-use Rattle.script.specs.Steps.{effect_of, step_at}
+use Rattle.std.specs.Prelude.{Err, Ok}
+use Rattle.script.specs.Laws.{Goes, StepRule, StepRules}
+use Rattle.script.specs.Steps.{step_on, step_at}
 use Rattle.script.proofs.RecordLaws.{call-read, read-inside, records-on, records-stop}
-use Rattle.calls.specs.declared.effect.Effect.{Effect}
-use Rattle.calls.specs.Turns.{carried_by}
+use Rattle.calls.specs.Turns.{judged}
 use Rattle.calls.proofs.UncheckedLaws.{formed-applied}
-use Rattle.record.specs.declared.reader.Next.{Next}
-use Rattle.record.specs.declared.reader.ReadCall.{ReadCall}
-use Rattle.record.specs.Reading.{call_at}
+use Rattle.record.specs.declared.reader.Cursor.{Cursor}
+use Rattle.record.specs.Reading.{Reading, call_at}
 use Rattle.space.specs.declared.space.Space.{Space}
+use Rattle.space.specs.Spaces.{well_formed}
+use Rattle.tuple.specs.declared.field.Call.{Call}
+use Rattle.varint.specs.Reading.{Bytes}
 
--- what was read, with what is done then, is the step
-pub read_step : (s : List ℕ) (at : ℕ) (space : Space) (read : ReadCall) (does : Effect) → read ≡ call_at s at → does ≡ effect_of space read.call read.next
-    → record { next = read.next; call = read.call; effect = does } ≡ step_at s at space
-unfolding step_at
-read_step s at space read does said made =
-    ap {B = Stepped} (λ (e : Effect). record { next = read.next; call = read.call; effect = e }) made
-    ∙ ap {B = Stepped} (λ (r : ReadCall). record { next = r.next; call = r.call; effect = effect_of space r.call r.next }) said
+module _ (s : List ℕ) (at : ℕ) (space : Space) (bytes : Bytes s) (inside : at < length s) (formed : well_formed space ≡ true) where
+  pub step-goes : {call : Call} {cursor : Cursor} → call_at s at ≡ Ok (call, cursor)
+      → Goes s at space (record { next = cursor; call = call; effect = judged space call })
+  step-goes {call} e =
+      record {
+        first = records-on s at inside bytes e;
+        further = omega (arith, (read-inside inside (call-read bytes e)).0);
+        turn = formed-applied space call formed;
+      }
+
+  by : (read : Reading Call) → call_at s at ≡ read → StepRule s at space (step_on space read)
+  by (Ok (call, cursor)) e =
+      record {
+        goes = λ step same. subst (Goes s at space) (cc) (step-goes e);
+        ends = λ why same. let z : ◌≡◌ {A = ℕ} 0 1 = cc in absurd (omega arith);
+      }
+  by (Err other) e =
+      record {
+        goes = λ step same. let z : ◌≡◌ {A = ℕ} 0 1 = cc in absurd (omega arith);
+        ends = λ why same. records-stop s at inside (e ∙ cc);
+      }
 
 pub step-rules : StepRules
 unfolding step_at
-step-rules s at space bytes inside formed =
-    let read = call_at s at in
-    record {
-      goes = λ cursor e. record {
-        first = records-on s at inside read refl cursor bytes e;
-        further = omega (arith, (read-inside inside (call-read s at read cursor bytes refl e)).0);
-        turn = ap (λ (n : Next). carried_by space read.call (effect_of space read.call n)) e ∙ formed-applied space read.call formed;
-      };
-      ends = λ why e. record { last = records-stop s at inside read refl why e; answer = ap (effect_of space read.call) e };
-    }
+step-rules s at space bytes inside formed = by s at space bytes inside formed (call_at s at) refl

@@ -1,19 +1,15 @@
--- Document 01, "A whole script": one record of a script, on a space. A record that can't be read changes nothing, and its refusal is the reply.
-use Rattle.std.specs.Prelude.{ℕ, List}
+-- Document 01, "A whole script": one record of a script, on a space. Of a record that can't be read the refusal is answered.
+use Rattle.std.specs.Prelude.{ℕ, List, Err, Ok, Result}
 use Rattle.script.specs.declared.steps.Stepped.{Stepped}
-use Rattle.calls.specs.declared.effect.Effect.{Effect}
-use Rattle.calls.specs.Effects.{refuses}
 use Rattle.calls.specs.Turns.{judged}
-use Rattle.record.specs.declared.reader.Next.{Next}
-use Rattle.record.specs.declared.reader.Next.TheVariants.{At, Refused}
-use Rattle.record.specs.Reading.{call_at}
+use Rattle.record.specs.Reading.{Reading, call_at}
 use Rattle.space.specs.declared.space.Space.{Space}
 use Rattle.tuple.specs.declared.field.Call.{Call}
+use Rattle.tuple.specs.declared.refusal.Refusal.{Refusal}
 
-abbrev pub effect_of : Space → Call → Next → Effect
-effect_of space call (At cursor) = judged space call
-effect_of space call (Refused why) = refuses why
+abbrev pub step_on : Space → Reading Call → Result Stepped Refusal
+step_on space (Ok (call, cursor)) = Ok (record { next = cursor; call = call; effect = judged space call })
+step_on space (Err why) = Err why
 
-unfoldable pub step_at : List ℕ → ℕ → Space → Stepped
-step_at s at space =
-    let read = call_at s at in record { next = read.next; call = read.call; effect = effect_of space read.call read.next }
+unfoldable pub step_at : List ℕ → ℕ → Space → Result Stepped Refusal
+step_at s at space = step_on space (call_at s at)

@@ -8,8 +8,8 @@ mod run;
 mod setup;
 mod steps;
 
-pub use run::{Printed, blank, print};
-pub use setup::{ReadConfig, head};
+pub use run::{blank, print};
+pub use setup::head;
 pub use steps::{Stepped, step};
 
 // The most bytes of a script, and of a text.

@@ -1,60 +1,50 @@
 // The lines of a script's text that speak of more than a reply, each with its line feed.
-ghost use Rattle.std.specs.Prelude.{◌≡◌, length};
-ghost use Rattle.std.proofs.lemmas.List.Edits.{sets};
 ghost use Rattle.script.specs.Printing.{unread_of};
 ghost use Rattle.script.specs.Texts.{choices_text, config_line, count_line};
-ghost use Rattle.text.specs.Places.{behind};
+ghost use Rattle.text.specs.Printers.{Puts};
 
-use record::Next;
+use record::Cursor;
 use space::Config;
-use text::{put, put_number, put_refused, put_spaced};
+use text::Printer;
+use tuple::Refusal;
 
 // Board, n, t and the policy, and under policy 3 k.
-pub(crate) fn put_config(out: &mut [u8], at: usize, config: Config) -> usize
-    ensures value { result ≡ behind at (length (config_line config)) }
-    ensures out_after { out.new ≡ sets out.old at (config_line config) }
+pub(crate) fn put_config(printer: &mut Printer, config: Config)
+    ensures { Puts printer.old printer.new (config_line config) }
 {
-    let word = put(out, at, b"board");
-    let n = put_spaced(out, word, config.n);
-    let t = put_spaced(out, n, config.t);
-    let policy = put_spaced(out, t, config.policy);
-    let choices = put_choices(out, policy, config);
-    put(out, choices, b"\n")
+    printer.put(b"board");
+    printer.put_spaced(config.n);
+    printer.put_spaced(config.t);
+    printer.put_spaced(config.policy);
+    put_choices(printer, config);
+    printer.put(b"\n");
 }
 
 // Under policy 3 how many choices there are.
-fn put_choices(out: &mut [u8], at: usize, config: Config) -> usize
-    ensures value { result ≡ behind at (length (choices_text config)) }
-    ensures out_after { out.new ≡ sets out.old at (choices_text config) }
+fn put_choices(printer: &mut Printer, config: Config)
+    ensures { Puts printer.old printer.new (choices_text config) }
 {
     if config.has_choices() {
-        put_spaced(out, at, config.k)
-    } else {
-        at
+        printer.put_spaced(config.k);
     }
 }
 
-// The number of a record that can't be read and the refusal in place of its end.
-pub(crate) fn put_unread(out: &mut [u8], at: usize, number: u64, next: Next) -> usize
-    ensures value { result ≡ behind at (length (unread_of number next)) }
-    ensures out_after { out.new ≡ sets out.old at (unread_of number next) }
+// The number of a record that can't be read, and the refusal in place of its end.
+pub(crate) fn put_unread(printer: &mut Printer, number: u64, next: Result<Cursor, Refusal>)
+    ensures { Puts printer.old printer.new (unread_of number next) }
 {
-    match next {
-        Next::At(_) => at,
-        Next::Refused(refusal) => {
-            let head = put_number(out, at, number);
-            let place = put(out, head, b" ");
-            put_refused(out, place, refusal)
-        }
+    if let Err(refusal) = next {
+        printer.put_number(number);
+        printer.put(b" ");
+        printer.put_refused(refusal);
     }
 }
 
 // Tuples and how many are held.
-pub(crate) fn put_count(out: &mut [u8], at: usize, count: usize) -> usize
-    ensures value { result ≡ behind at (length (count_line count)) }
-    ensures out_after { out.new ≡ sets out.old at (count_line count) }
+pub(crate) fn put_count(printer: &mut Printer, count: usize)
+    ensures { Puts printer.old printer.new (count_line count) }
 {
-    let word = put(out, at, b"tuples");
-    let number = put_spaced(out, word, count as u64);
-    put(out, number, b"\n")
+    printer.put(b"tuples");
+    printer.put_spaced(count as u64);
+    printer.put(b"\n");
 }

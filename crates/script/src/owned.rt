@@ -3,34 +3,29 @@ ghost use Rattle.std.specs.Prelude.{◌≡◌};
 ghost use Rattle.script.specs.Private.{sought_of, done_by};
 
 use calls::{Effect, effect_of, refused};
-use policy::Verdict;
-use tuple::{Found, OUT, TUPLES, Tuple};
+use tuple::{OUT, Tuple, Verdict};
 
 // How many of so many tuples are looked at: none by a call that is refused, and none by an out.
 pub(crate) fn sought(first: Verdict, code: u32, count: usize) -> usize
     ensures { result ≡ sought_of first code count }
 {
-    if let Verdict::Refuse(_) = first {
+    if first.is_err() {
         return 0;
     }
     if code == OUT { 0 } else { count }
 }
 
-// What a call does by its first refusal, or by the oldest tuple that matches, which stands at `spot`; at 256 there is none, and the tuple is not looked at.
+// What a call does by its first refusal, or by the oldest tuple that matches and its place.
 pub(crate) fn effect_by(
     first: Verdict,
     code: u32,
     count: usize,
-    tuple: Tuple,
-    spot: usize,
+    found: Option<(usize, Tuple)>,
 ) -> Effect
-    ensures { result ≡ done_by first code count tuple spot }
+    ensures { result ≡ done_by first code count found }
 {
-    if let Verdict::Refuse(refusal) = first {
-        return refused(refusal);
+    match first {
+        Err(refusal) => refused(refusal),
+        Ok(()) => effect_of(code, count, found),
     }
-    if spot < TUPLES {
-        return effect_of(code, count, tuple, Found::At(spot));
-    }
-    effect_of(code, count, Tuple::blank(), Found::Nowhere)
 }

@@ -1,48 +1,39 @@
-// The records of a script, run on the one space that stands here. It is three locals, the tuples, their table and their count, and the search, the append and the
-// removal stand in the loop that owns them: a space that is handed on is copied (docs/DECISIONS.md, "What copies a space").
-ghost use Rattle.std.specs.Prelude.{◌≡◌, true, length};
-ghost use Rattle.std.proofs.lemmas.List.Edits.{sets};
+// The records of a script, run on the one space that stands here. It is three locals, the tuples, their table and their count; the search has the tuples lent as a
+// slice, and the append and the removal stand in the loop that owns them: a space that is handed on is copied (docs/DECISIONS.md, "What copies a space").
+ghost use Rattle.std.specs.Prelude.{◌≡◌, true};
 ghost use Rattle.script.specs.Printing.{lines_on};
 ghost use Rattle.script.specs.Scripts.{records_at};
 ghost use Rattle.space.specs.Configs.{sound};
-ghost use Rattle.space.specs.Spaces.{fresh_of};
-ghost use Rattle.text.specs.Places.{behind};
+ghost use Rattle.space.specs.Spaces.{fresh_space};
+ghost use Rattle.text.specs.Printers.{Puts};
 ghost use Rattle.varint.specs.Reading.{Bytes};
 
 use crate::line::{put_count, put_unread};
 use crate::owned::{effect_by, sought};
 use calls::{Change, lent_refusal, list_refusal};
 use policy::asks_tuples;
-use record::{Cursor, Next};
+use record::Cursor;
 use space::{Config, PLACES, Space, enter};
-use text::put_line;
-use tuple::{FIELDS, TUPLES, Tuple, field_matches, least};
+use text::Printer;
+use tuple::{TUPLES, Tuple, oldest};
 
 // The lines of the records from a position on, each call on the space that the one before left, the first on a fresh one; and the last line.
-pub(crate) fn put_records(
-    out: &mut [u8],
-    at: usize,
-    script: &[u8],
-    start: Cursor,
-    config: Config,
-) -> usize
+pub(crate) fn put_records(printer: &mut Printer, script: &[u8], start: Cursor, config: Config)
     requires bytes { Bytes script.now }
     requires config_value { sound config ≡ true }
-    ensures value { result ≡ behind at (length (lines_on 1 (fresh_of config).space (records_at script.now start.at))) }
-    ensures out_after { out.new ≡ sets out.old at (lines_on 1 (fresh_of config).space (records_at script.now start.at)) }
+    ensures { Puts printer.old printer.new (lines_on 1 (fresh_space config) (records_at script.now start.at)) }
 {
     let mut tuples = [Tuple::blank(); TUPLES];
     let mut table = [0u64; PLACES];
     let mut count: usize = 0;
-    let mut place = at;
     let mut cursor = start;
     let mut number: u64 = 1;
+    // A while: the place of the next record is what reading this one answers.
     while cursor.at < script.len() {
         let read = cursor.call(script);
-        let next = read.next;
-        let Next::At(behind) = next else {
-            let end = put_unread(out, place, number, next);
-            return put_count(out, end, count);
+        let Ok(behind) = read.next else {
+            put_unread(printer, number, read.next);
+            return put_count(printer, count);
         };
         let call = read.call;
         let code = call.code;
@@ -62,35 +53,11 @@ pub(crate) fn put_records(
             lent_refusal(config, &table, call)
         };
         let held = sought(first, code, count);
-        let wanted = template.count;
-        let places = least(wanted, FIELDS);
-        let mut spot = TUPLES;
-        let mut i = 0;
-        'tuples: while i < held {
-            let tuple = tuples[i];
-            let here = i;
-            i += 1;
-            if tuple.count != wanted {
-                continue 'tuples;
-            }
-            let mut j = 0;
-            while j < places {
-                let asked = template.fields[j];
-                let given = tuple.fields[j];
-                if !field_matches(asked, given) {
-                    continue 'tuples;
-                }
-                j += 1;
-            }
-            spot = here;
-            break 'tuples;
-        }
-        let last = least(spot, TUPLES - 1);
-        let found = tuples[last];
-        let effect = effect_by(first, code, count, found, spot);
+        let found = oldest(&tuples[..held], template);
+        let effect = effect_by(first, code, count, found);
         let reply = effect.reply;
         let change = effect.change;
-        place = put_line(out, place, number, reply);
+        printer.put_line(number, reply);
         cursor = behind;
         number += 1;
         match change {
@@ -108,16 +75,11 @@ pub(crate) fn put_records(
                 if count <= gone {
                     continue;
                 }
-                let mut k = gone + 1;
-                while k < count {
-                    let moved = tuples[k];
-                    tuples[k - 1] = moved;
-                    k += 1;
-                }
+                tuples.copy_within(gone + 1..count, gone);
                 tuples[count - 1] = Tuple::blank();
                 count -= 1;
             }
         }
     }
-    put_count(out, place, count)
+    put_count(printer, count);
 }

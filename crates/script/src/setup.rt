@@ -1,97 +1,46 @@
 // The head of a script: its length, and the set-up at its start: n, t and the policy number, and under policy 3 k.
 ghost use Rattle.std.specs.Prelude.{◌≡◌};
-ghost use Rattle.script.specs.Scripts.{no_config, k_step, config_of, script_head};
-ghost use Rattle.record.specs.Reading.{read_number};
+ghost use Rattle.script.specs.Scripts.{behind_policy, config_of, script_head};
 
 use crate::SCRIPT_BYTES;
-use record::{Cursor, Next};
+use record::{Cursor, Reading};
 use space::Config;
 use tuple::Refusal;
 
-// The position behind the set-up, or the refusal, and the configuration, blank beside a refusal.
-#[derive(Clone, Copy)]
-pub struct ReadConfig {
-    pub next: Next,
-    pub config: Config,
-}
-
-// The set-up of a script whose records are to be made on a fresh space; or 9, then 2 or 3 for a set-up that can't be read, then 1 for one that is not sound.
-pub fn head(script: &[u8]) -> ReadConfig
+// The set-up of a script whose records are to be made on a fresh space, and the position behind it; or 9, then 2 or 3 for a set-up that can't be read, then 1
+// for one that is not sound.
+#[tactic(auto, unfolding(crate::specs::Scripts::script_head))]
+pub fn head(script: &[u8]) -> Reading<Config>
     ensures { result ≡ script_head script.now }
 {
     if SCRIPT_BYTES < script.len() {
-        return no_config(Next::Refused(Refusal::LongScript));
+        return Err(Refusal::LongScript);
     }
-    let read = read_config(script);
-    let next = read.next;
-    let config = read.config;
-    let Next::At(_) = next else {
-        return no_config(next);
-    };
+    let (config, start) = read_config(script)?;
     if !config.is_sound() {
-        return no_config(Next::Refused(Refusal::Unsound));
+        return Err(Refusal::Unsound);
     }
-    read
+    Ok((config, start))
 }
 
-pub(crate) fn read_config(script: &[u8]) -> ReadConfig
+#[tactic(auto, unfolding(crate::specs::Scripts::config_of))]
+pub(crate) fn read_config(script: &[u8]) -> Reading<Config>
     ensures { result ≡ config_of script.now }
 {
-    let n = Cursor { at: 0 }.number(script);
-    let behind_n = n.next;
-    let Next::At(second) = behind_n else {
-        return no_config(behind_n);
-    };
-    let t = second.number(script);
-    let behind_t = t.next;
-    let Next::At(third) = behind_t else {
-        return no_config(behind_t);
-    };
-    let policy = third.number(script);
-    let behind_policy = policy.next;
-    let Next::At(fourth) = behind_policy else {
-        return no_config(behind_policy);
-    };
-    let config = Config {
-        n: n.value,
-        t: t.value,
-        policy: policy.value,
-        k: 0,
-    };
-    if config.has_choices() {
-        return read_k(script, fourth, config);
-    }
-    ReadConfig {
-        next: Next::At(fourth),
-        config,
-    }
+    let (n, behind_n) = Cursor { at: 0 }.number(script)?;
+    let (t, behind_t) = behind_n.number(script)?;
+    let (policy, behind_policy) = behind_t.number(script)?;
+    let config = Config { n, t, policy, k: 0 };
+    with_choices(script, behind_policy, config)
 }
 
-// The configuration with the k that stands at a position.
-fn read_k(script: &[u8], at: Cursor, config: Config) -> ReadConfig
-    ensures { result ≡ k_step config (read_number script.now at.at) }
+// The configuration, under policy 3 with the k that stands at a position.
+fn with_choices(script: &[u8], at: Cursor, config: Config) -> Reading<Config>
+    ensures { result ≡ behind_policy script.now config at.at }
 {
-    let k = at.number(script);
-    let behind_k = k.next;
-    let Next::At(end) = behind_k else {
-        return no_config(behind_k);
-    };
-    ReadConfig {
-        next: Next::At(end),
-        config: Config {
-            n: config.n,
-            t: config.t,
-            policy: config.policy,
-            k: k.value,
-        },
+    if !config.has_choices() {
+        return Ok((config, at));
     }
-}
-
-fn no_config(next: Next) -> ReadConfig
-    ensures { result ≡ no_config next }
-{
-    ReadConfig {
-        next,
-        config: Config::blank(),
-    }
+    let (k, end) = at.number(script)?;
+    Ok((Config { k, ..config }, end))
 }

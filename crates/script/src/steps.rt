@@ -2,37 +2,28 @@
 ghost use Rattle.std.specs.Prelude.{◌≡◌};
 ghost use Rattle.script.specs.Steps.{step_at};
 
-use calls::{Effect, judge_unchecked, refused};
-use record::{Cursor, Next};
+use calls::{Effect, judge_unchecked};
+use record::Cursor;
 use space::Space;
-use tuple::Call;
+use tuple::{Call, Refusal};
 
-// The position behind the record, or the refusal of one that can't be read; the call, blank beside a refusal; and the reply with what
-// becomes of the tuples.
+// The position behind a record, its call, and the reply with what becomes of the tuples.
 #[derive(Clone, Copy)]
 pub struct Stepped {
-    pub next: Next,
+    pub next: Cursor,
     pub call: Call,
     pub effect: Effect,
 }
 
-// The record at a position, on a space whose places are not tested: docs/DECISIONS.md, "Functions that leave a test out".
-pub fn step(script: &[u8], cursor: Cursor, space: Space) -> Stepped
+// The record at a position, on a space whose places are not tested: docs/DECISIONS.md, "Functions that leave a test out"; or the refusal of one that can't be
+// read.
+#[tactic(auto, unfolding(crate::specs::Steps::step_at))]
+pub fn step(script: &[u8], cursor: Cursor, space: Space) -> Result<Stepped, Refusal>
     ensures { result ≡ step_at script.now cursor.at space }
 {
     let read = cursor.call(script);
-    let next = read.next;
+    let next = read.next?;
     let call = read.call;
-    match next {
-        Next::At(_) => Stepped {
-            next,
-            call,
-            effect: judge_unchecked(space, call),
-        },
-        Next::Refused(refusal) => Stepped {
-            next,
-            call,
-            effect: refused(refusal),
-        },
-    }
+    let effect = judge_unchecked(space, call);
+    Ok(Stepped { next, call, effect })
 }

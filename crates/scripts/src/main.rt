@@ -9,9 +9,7 @@ mod show;
 use std::io;
 
 fn main(rt: HostRuntime) -> io::Result<()> {
-    let mut list = [0u8; 4096];
-    let n = case::load(&rt, b"list", &mut list)?;
-    case::named(&rt, &list[..n])?;
+    case::listed(&rt)?;
     case::cuts(&rt)?;
     made::unread(&rt)?;
     made::full(&rt)?;

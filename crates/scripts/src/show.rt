@@ -1,39 +1,24 @@
-// Lines on standard output.
-use script::Printed;
+// Texts of scripts on standard output.
 use std::io;
 
 // The text of a script.
 pub(crate) fn text(rt: &impl Print, script: &[u8]) -> io::Result<()> {
     let mut buffer = script::blank();
-    let printed = script::print(script, &mut buffer);
-    if let Printed::Length(length) = printed {
-        rt.write_all(&buffer[..length])?;
-    }
-    Ok(())
+    rt.write_all(text_of(script, &mut buffer))
 }
 
 // How many bytes the text of a script has, and the last of them.
 pub(crate) fn end(rt: &impl Print, script: &[u8], last: usize) -> io::Result<()> {
     let mut buffer = script::blank();
-    let printed = script::print(script, &mut buffer);
-    if let Printed::Length(length) = printed {
-        number(rt, b"bytes of text: ", length as u64)?;
-        if last <= length {
-            let start = length - last;
-            rt.write_all(&buffer[start..length])?;
-        }
+    let text = text_of(script, &mut buffer);
+    println!(rt; "bytes of text: {}", text.len())?;
+    rt.write_all(&text[text.len().saturating_sub(last)..])
+}
+
+// The text of a script, which is put at the start of a buffer.
+fn text_of<'a>(script: &[u8], buffer: &'a mut [u8]) -> &'a [u8] {
+    match script::print(script, buffer) {
+        Ok(length) => &buffer[..length],
+        Err(_) => &[],
     }
-    Ok(())
-}
-
-pub(crate) fn line(rt: &impl Print, words: &[u8]) -> io::Result<()> {
-    rt.write_all(words)?;
-    rt.write_all(b"\n")
-}
-
-// Words and a number.
-pub(crate) fn number(rt: &impl Print, words: &[u8], n: u64) -> io::Result<()> {
-    rt.write_all(words)?;
-    rt.print(n)?;
-    rt.write_all(b"\n")
 }

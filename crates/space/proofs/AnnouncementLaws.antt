@@ -4,14 +4,13 @@ use mathlib.Core.Logic.{◌↔◌, ⊎_elim}
 use mathlib.Core.Bool.{true, false, and-eq-true_iff}
 use mathlib.Core.List.Memᴰ
 use mathlib.Core.List.{List, [], ◌∷◌}
-use Prim.Native.Nat.{ℕ, zero, suc, ◌+◌, ◌≤◌, ◌<◌, min}
+use Prim.Native.Nat.{ℕ, zero, suc, ◌+◌, ◌≤◌, ◌<◌}
 use native.Mathlib.Omega.{arith}
-use lib.ListN.{length, take, drop, get_or}
+use lib.ListN.{length, drop, drop_of_length-le, get_or}
 use lib.Dec.{ltb, eqb}
 use borrow.Author.Tests.{ltb-true, ltb-false, eqb-true, eqb-false, not-true, eq-eqb, ne_eqb}
 use borrow.Table.Steps.{cases}
-use Rattle.space.specs.declared.announcement.Announced.{Announced}
-use Rattle.space.specs.declared.announcement.Announced.TheVariants.{Shift, Silent}
+use Rattle.std.specs.Prelude.{None, Option, Some}
 use Rattle.space.specs.Announcements.{is_announcement, announcer_of, announced_serial, announced_code, announces, announced_of, Announcing, Oldest}
 use Rattle.space.specs.Laws.{AnnouncementRule, AnnouncedRules}
 use Rattle.space.proofs.SpaceRules.{stands}
@@ -22,27 +21,24 @@ use Rattle.tuple.specs.Forms.{announcement_shape}
 use Rattle.tuple.specs.Offsets.{bottom}
 use Rattle.tuple.specs.Shapes.{field, has_shape}
 use Rattle.tuple.proofs.FieldLaws.{field_is, field-says}
-use Rattle.tuple.proofs.Lists.{drop-take-step, drop-take-end}
+use Rattle.tuple.proofs.Lists.{drop-step}
 use Rattle.tuple.proofs.ShapeLaws.{Parts, shape-parts}
 
 -- ---- one step of the search
 
-module _ (process n : ℕ) (l : List Tuple) (i : ℕ) (passed : announced_of (drop i (take n l)) process ≡ announced_of (take n l) process) where
-  module _ (d : Tuple) (below : i < n) (inside : i < length l) where
-    here : announced_of (get_or l i d ∷ drop (i + 1) (take n l)) process ≡ announced_of (take n l) process
-    here = ap (λ (ts : List Tuple). announced_of ts process) (sym (drop-take-step n l i d below inside)) ∙ passed
-
-    pub announced-here : announces process (get_or l i d) ≡ true → Shift (announced_serial (get_or l i d)) (announced_code (get_or l i d)) ≡ announced_of (take n l) process
+module _ (process : ℕ) (l : List Tuple) (i : ℕ) where
+  module _ (d : Tuple) (inside : i < length l) where
+    pub announced-here : announces process (get_or l i d) ≡ true → (Some (announced_serial (get_or l i d), announced_code (get_or l i d))) ≡ announced_of (drop i l) process
     unfolding announced_of
-    announced-here e = sym (rw e) ∙ here
+    announced-here e = rw (drop-step l i d inside, e)
 
-    pub announced-more : announces process (get_or l i d) ≡ false → announced_of (drop (i + 1) (take n l)) process ≡ announced_of (take n l) process
+    pub announced-more : announces process (get_or l i d) ≡ false → announced_of (drop (i + 1) l) process ≡ announced_of (drop i l) process
     unfolding announced_of
-    announced-more e = sym (rw e) ∙ here
+    announced-more e = rw (drop-step l i d inside, e)
 
-  pub announced-none : min n (length l) ≤ i → Silent ≡ announced_of (take n l) process
+  pub announced-none : length l ≤ i → None ≡ announced_of (drop i l) process
   unfolding announced_of
-  announced-none h = sym (ap (λ (ts : List Tuple). announced_of ts process) (drop-take-end n l i h)) ∙ passed
+  announced-none h = rw (drop_of_length-le l {i = i} h)
 
 -- ---- an announcement
 
@@ -84,12 +80,12 @@ announces-rule process tuple = (
 
 module _ (process : ℕ) where
   -- what the answer says of the tuples
-  abbrev Says : List Tuple → Announced → Type 0
-  Says tuples (Shift serial code) = Oldest tuples process serial code
-  Says tuples Silent = Announcing tuples process → ⊥
+  abbrev Says : List Tuple → Option (ℕ × ℕ) → Type 0
+  Says tuples (Some (serial, code)) = Oldest tuples process serial code
+  Says tuples None = Announcing tuples process → ⊥
 
-  said-later : (tuple : Tuple) (tuples : List Tuple) → announces process tuple ≡ false → (answer : Announced) → Says tuples answer → Says (tuple ∷ tuples) answer
-  said-later tuple tuples other (Shift serial code) o =
+  said-later : (tuple : Tuple) (tuples : List Tuple) → announces process tuple ≡ false → (answer : (Option (ℕ × ℕ))) → Says tuples answer → Says (tuple ∷ tuples) answer
+  said-later tuple tuples other (Some (serial, code)) o =
       record {
         at = suc o.at;
         inside = omega (arith, o.inside);
@@ -102,7 +98,7 @@ module _ (process : ℕ) where
           | suc j ↦ λ below. o.first j (omega arith)
         ];
       }
-  said-later tuple tuples other Silent none = λ a.
+  said-later tuple tuples other None none = λ a.
       ⊎_elim
       (λ e. let met = (announces-rule process tuple).1 (rw e at a.shape, rw e at a.by) in let z : ◌≡◌ {A = ℕ} 0 1 = cc in omega arith)
       (λ later. none (record { tuple = a.tuple; stands = later; shape = a.shape; by = a.by }))
@@ -135,13 +131,13 @@ module _ (process : ℕ) where
   oldest-stands {tuples} o =
       record { tuple = get_or tuples o.at blank_tuple; stands = stands tuples o.at o.inside; shape = o.shape; by = o.by }
 
-  silent-none : (tuples : List Tuple) (answer : Announced) → Says tuples answer → (Announcing tuples process → ⊥) → answer ≡ Silent
-  silent-none tuples (Shift serial code) o none = absurd (none (oldest-stands o))
-  silent-none tuples Silent a none = refl
+  silent-none : (tuples : List Tuple) (answer : (Option (ℕ × ℕ))) → Says tuples answer → (Announcing tuples process → ⊥) → answer ≡ None
+  silent-none tuples (Some (serial, code)) o none = absurd (none (oldest-stands o))
+  silent-none tuples None a none = refl
 
-  shift-oldest : (tuples : List Tuple) (serial code : ℕ) (answer : Announced) → Says tuples answer → Oldest tuples process serial code → answer ≡ Shift serial code
-  shift-oldest tuples serial code (Shift serial' code') a o = let same = one-oldest a o in λ i. Shift (same.0 i) (same.1 i)
-  shift-oldest tuples serial code Silent a o = absurd (a (oldest-stands o))
+  shift-oldest : (tuples : List Tuple) (serial code : ℕ) (answer : (Option (ℕ × ℕ))) → Says tuples answer → Oldest tuples process serial code → answer ≡ Some (serial, code)
+  shift-oldest tuples serial code (Some (serial', code')) a o = let same = one-oldest a o in λ i. (Some (same.0 i, same.1 i))
+  shift-oldest tuples serial code None a o = absurd (a (oldest-stands o))
 
 pub announced-rules : AnnouncedRules
 announced-rules tuples process =

@@ -1,17 +1,16 @@
 -- The tuples of the shared list and what is listed: the laws in document 02's words, from the definitions of lists.
 use mathlib.Core.Path.{◌≡◌, refl}
 use mathlib.Core.Logic.{inl, inr}
-use mathlib.Core.Bool.{true, false≢true, or-true, and-eq-true_iff}
+use mathlib.Core.Bool.{Bool, true, false≢true, or-true, and_comm, ◌&&◌, and-eq-true_iff}
 use mathlib.Core.List.Memᴰ
 use mathlib.Core.List.{List, [], ◌∷◌, Memᴰ}
 use Prim.Native.Nat.{ℕ}
 use lib.Dec.{eqb}
 use borrow.Author.Tests.{eqb-true, eq-eqb}
 use borrow.Table.Steps.{cases}
-use Rattle.space.specs.declared.list.Wanted.{Wanted}
-use Rattle.space.specs.declared.list.Wanted.TheVariants.{Position, Serial}
 use Rattle.space.specs.Laws.{ListTupleRule, FilledRule, ListedRule}
-use Rattle.space.specs.Lists.{listed_process, is_list_tuple, is_wanted, lists, is_there, is_filled, is_listed}
+use Rattle.space.specs.Lists.{listed_process, is_list_tuple, has_position, has_serial, lists, is_there, is_filled, is_listed}
+use Rattle.std.specs.List.{list_any}
 use Rattle.tuple.specs.declared.field.Tuple.{Tuple}
 use Rattle.tuple.specs.Fields.{word, count, offset, defined, listing}
 use Rattle.tuple.specs.Forms.{list_tuple, list_tuple_shape}
@@ -43,25 +42,25 @@ list-tuple-rule tuple = (
 
 -- ---- what is listed
 
-module _ (wanted : Wanted) where
+module _ (test : Tuple → Bool) where
   -- such a tuple stands in the list
   record Standing (tuples : List Tuple) : Type 0 where
     tuple : Tuple
     stands : Memᴰ tuple tuples
     shape : is_list_tuple tuple ≡ true
-    sought : is_wanted wanted tuple ≡ true
+    sought : test tuple ≡ true
 
-  there-standing : (tuples : List Tuple) → is_there wanted tuples ≡ true → Standing tuples
+  there-standing : (tuples : List Tuple) → is_there test tuples ≡ true → Standing tuples
   unfolding is_there lists
   there-standing [] h = absurd (false≢true h)
   there-standing (tuple ∷ tuples) h =
-      cases (lists wanted tuple)
+      cases (lists test tuple)
       (λ e. let parts = (and-eq-true_iff (is_list_tuple tuple) _).0 e in
       record { tuple = tuple; stands = Memᴰ.head refl; shape = parts.0; sought = parts.1 })
       (λ e. let rest = there-standing tuples (rw e at h) in
       record { tuple = rest.tuple; stands = Memᴰ.tail rest.stands; shape = rest.shape; sought = rest.sought })
 
-  standing-there : (tuples : List Tuple) → Standing tuples → is_there wanted tuples ≡ true
+  standing-there : (tuples : List Tuple) → Standing tuples → is_there test tuples ≡ true
   unfolding is_there lists
   standing-there [] s = absurd (Memᴰ.not-nil s.stands)
   standing-there (tuple ∷ tuples) s =
@@ -73,15 +72,21 @@ module _ (wanted : Wanted) where
 pub filled-rule : FilledRule
 unfolding is_filled
 filled-rule tuples position = (
-  λ h. let s = there-standing (Position position) tuples h in record { tuple = s.tuple; stands = s.stands; shape = s.shape; at = eqb-true _ _ s.sought },
-  λ f. standing-there (Position position) tuples (record { tuple = f.tuple; stands = f.stands; shape = f.shape; sought = eq-eqb _ _ f.at }),
+  λ h. let s = there-standing (has_position position) tuples h in record { tuple = s.tuple; stands = s.stands; shape = s.shape; at = eqb-true _ _ s.sought },
+  λ f. standing-there (has_position position) tuples (record { tuple = f.tuple; stands = f.stands; shape = f.shape; sought = eq-eqb _ _ f.at }),
 )
 
 pub listed-rule : ListedRule
 unfolding is_listed
 listed-rule tuples process serial = (
-  λ h. let s = there-standing (Serial process serial) tuples h in
+  λ h. let s = there-standing (has_serial process serial) tuples h in
       let same = (and-eq-true_iff (eqb (listed_process s.tuple) process) _).0 s.sought in
       record { tuple = s.tuple; stands = s.stands; shape = s.shape; by = eqb-true _ _ same.0; with-serial = eqb-true _ _ same.1 },
-  λ l. standing-there (Serial process serial) tuples (record { tuple = l.tuple; stands = l.stands; shape = l.shape; sought = rw (eq-eqb _ _ l.by, eq-eqb _ _ l.with-serial) refl }),
+  λ l. standing-there (has_serial process serial) tuples (record { tuple = l.tuple; stands = l.stands; shape = l.shape; sought = rw (eq-eqb _ _ l.by, eq-eqb _ _ l.with-serial) refl }),
 )
+
+-- what a search answers that asks for the shape last
+pub there-any : (test : Tuple → Bool) (tuples : List Tuple) → list_any (λ tuple. test tuple && is_list_tuple tuple) tuples ≡ is_there test tuples
+unfolding is_there lists
+there-any test [] = refl
+there-any test (tuple ∷ tuples) = rw (and_comm (test tuple) (is_list_tuple tuple), there-any test tuples)

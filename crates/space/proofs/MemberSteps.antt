@@ -1,22 +1,26 @@
 -- The steps of the loops over a set's members, over plain values. From the definitions alone.
-use mathlib.Core.Path.{◌≡◌, refl, ap, ◌∙◌}
-use Prim.Native.Nat.{ℕ, zero, suc, ◌+◌, ◌-◌, ◌*◌, ◌/◌, ◌%◌, ◌≤◌, ◌<◌}
-use native.Mathlib.Nat.{mul-le-mul_left}
+use mathlib.Core.Path.{◌≡◌, refl, sym, ap, ◌∙◌}
+use mathlib.Core.Logic.{◌⊎◌, inl, inr}
+use Prim.Native.Nat.{ℕ, zero, suc, ◌+◌, ◌-◌, ◌*◌, ◌/◌, ◌%◌, ◌^◌, ◌≤◌, ◌<◌}
+use native.Mathlib.Nat.{zero-add, div-one}
+use native.Mathlib.Numerals.{one-add}
 use native.Mathlib.Omega.{arith}
 use mathlib.Core.Bool.{Bool, true, false, cond, ◌&&◌, ◌||◌}
-use lib.Dec.{eqb}
-use borrow.Author.Tests.{eq-eqb, ne_eqb}
+use mir.Syntax.{w64}
+use lib.Bits.{bit_and, and_le_l}
+use lib.Dec.{eqb, ltb}
+use lib.Pow.{shr-shr}
+use borrow.Author.Tests.{ltb-true, ltb-false, eqb-true, eqb-false, eq-eqb, ne_eqb}
 use borrow.Table.Steps.{cases}
+use Rattle.std.specs.Int.{bit_at, bit_not}
+use Rattle.std.proofs.lemmas.Nat.Bits.{bit_at_lowest, bit_at-suc, bit_at_clear_same, bit_at_clear_other, same_from_bits_below}
 use Rattle.space.specs.Members.{beyond, every, counted, strike}
 
-pub beyond-step : (n k rest : ℕ) → k < n → beyond (n - k) rest ≡ beyond (n - (k + 1)) (rest / 2)
+-- what is left behind the n lowest bits is the set shifted by n
+pub beyond-shift : (n set : ℕ) → beyond n set ≡ set / 2 ^ n
 unfolding beyond
-beyond-step n k rest h = let more : n - k ≡ suc (n - (k + 1)) = omega arith in ap (λ (m : ℕ). beyond m rest) more
-
-pub beyond-none : (n : ℕ) → beyond n 0 ≡ 0
-unfolding beyond
-beyond-none zero = refl
-beyond-none (suc n) = beyond-none n
+beyond-shift zero set = sym (div-one set)
+beyond-shift (suc n) set = beyond-shift n (set / 2) ∙ shr-shr set 1 n ∙ ap (λ (m : ℕ). set / 2 ^ m) (one-add n)
 
 pub every-step : (test : ℕ → Bool) (n k rest : ℕ) → k < n
     → every test (n - k) (k + 1) rest ≡ (eqb (rest % 2) 0 || test (k + 1)) && every test (n - (k + 1)) (k + 1 + 1) (rest / 2)
@@ -33,25 +37,49 @@ unfolding every
 every-none test zero k = refl
 every-none test (suc n) k = every-none test n (k + 1)
 
-pub counted_step : (test : ℕ → Bool) (n k rest : ℕ) → k < n
-    → counted test (n - k) (k + 1) rest ≡ cond (eqb (rest % 2) 0) 0 (cond (test (k + 1)) 1 0) + counted test (n - (k + 1)) (k + 1 + 1) (rest / 2)
-unfolding counted
-counted_step test n k rest h = let more : n - k ≡ suc (n - (k + 1)) = omega arith in ap (λ (m : ℕ). counted test m (k + 1) rest) more
-
-pub counted-end : (test : ℕ → Bool) (n k rest : ℕ) → n ≤ k → counted test (n - k) (k + 1) rest ≡ 0
-unfolding counted
-counted-end test n k rest h = let none : n - k ≡ 0 = omega arith in ap (λ (m : ℕ). counted test m (k + 1) rest) none
-
-pub counted_none : (test : ℕ → Bool) (n k : ℕ) → counted test n k 0 ≡ 0
+counted_none : (test : ℕ → Bool) (n k : ℕ) → counted test n k 0 ≡ 0
 unfolding counted
 counted_none test zero k = refl
 counted_none test (suc n) k = ap (λ (m : ℕ). 0 + m) (counted_none test n (k + 1))
 
--- a member counts for one at most
-pub counted-one : (out passes : Bool) → cond out 0 (cond passes 1 0) ≤ 1
-counted-one true passes = omega arith
-counted-one false true = omega arith
-counted-one false false = omega arith
+-- those below k are passed, and the lowest bit of `rest` is that of k
+module _ (test : ℕ → Bool) (n k rest : ℕ) where
+  -- nobody is left
+  pub every-over : (rest ≡ 0) ⊎ (n < k) → every test (n + 1 - k) k rest ≡ true
+  unfolding every
+  every-over (inl none) = rw none (every-none test (n + 1 - k) k)
+  every-over (inr past) = let none : n + 1 - k ≡ 0 = omega arith in rw none
+
+  pub counted-over : (rest ≡ 0) ⊎ (n < k) → counted test (n + 1 - k) k rest ≡ 0
+  unfolding counted
+  counted-over (inl none) = rw none (counted_none test (n + 1 - k) k)
+  counted-over (inr past) = let none : n + 1 - k ≡ 0 = omega arith in rw none
+
+  module _ (below : k ≤ n) where
+    more : n + 1 - k ≡ suc (n + 1 - (k + 1))
+    more = omega arith
+
+    -- k is a member that fails the test
+    pub every-fails : rest % 2 ≡ 1 → false ≡ test k → every test (n + 1 - k) k rest ≡ false
+    unfolding every
+    every-fails member fails = rw (more, ne_eqb (rest % 2) 0 (λ e. omega arith), ← fails)
+
+    pub every-passes : (rest % 2 ≡ 1 → true ≡ test k) → every test (n + 1 - k) k rest ≡ every test (n + 1 - (k + 1)) (k + 1) (rest / 2)
+    unfolding every
+    every-passes passes =
+        cases (eqb (rest % 2) 0) (λ e. rw (more, e)) (λ e. rw (more, e, ← passes (omega (arith, eqb-false (rest % 2) 0 e))))
+
+    -- k is a member that passes it, and counts, or does not
+    pub counted-one : rest % 2 ≡ 1 → true ≡ test k → counted test (n + 1 - k) k rest ≡ 1 + counted test (n + 1 - (k + 1)) (k + 1) (rest / 2)
+    unfolding counted
+    counted-one member passes = rw (more, ne_eqb (rest % 2) 0 (λ e. omega arith), ← passes)
+
+    pub counted-other : (rest % 2 ≡ 1 → false ≡ test k) → counted test (n + 1 - k) k rest ≡ counted test (n + 1 - (k + 1)) (k + 1) (rest / 2)
+    unfolding counted
+    counted-other fails =
+        cases (eqb (rest % 2) 0)
+        (λ e. rw (more, e, zero-add))
+        (λ e. rw (more, e, ← fails (omega (arith, eqb-false (rest % 2) 0 e)), zero-add))
 
 -- tests that agree on those from k to k + n - 1
 module _ (a b : ℕ → Bool) where
@@ -83,67 +111,56 @@ counted_never (suc n) k set = omega (arith, nothing (eqb (set % 2) 0), counted_n
 
 -- ---- striking a process off
 
-strike-nothing : (q n k : ℕ) → strike q n k 0 ≡ 0
-unfolding strike
-strike-nothing q zero k = refl
-strike-nothing q (suc n) k = cases (eqb q k) (λ e. rw e) (λ e. rw (e, strike-nothing q n (k + 1)))
+half : (set rest : ℕ) → (set % 2 + 2 * rest) / 2 ≡ rest
+half set rest = omega arith
 
--- k bits are passed: what is left of the set is `rest`, its lowest bit worth `worth`, and what striking leaves of the rest decides
-pub record Passed (q n set rest worth k : ℕ) : Type 0 where
-  pub some : k ≤ n
-  pub part : worth * rest ≤ set
-  pub strikes : strike q n 1 set ≡ set - worth * rest + worth * strike q (n - k) (k + 1) rest
-
-pub none_passed : (q n set : ℕ) → Passed q n set set 1 0
-none_passed q n set =
-    let whole : strike q (n - 0) 1 set ≡ strike q n 1 set = ap (λ (m : ℕ). strike q m 1 set) (omega arith) in
-    record { some = omega arith; part = omega arith; strikes = omega arith }
-
-module _ (q n set rest worth k : ℕ) (passed : Passed q n set rest worth k) where
-  -- the rest is its lowest bit and twice its half
-  split : worth * rest ≡ worth * (2 * (rest / 2) + rest % 2)
-  split = ap (λ (m : ℕ). worth * m) (omega arith)
-
-  pub bit-fits : worth * (rest % 2) ≤ set
-  bit-fits = omega (arith, split, passed.part)
-
-  pub worth-fits : 2 ≤ rest → worth * 2 ≤ set
-  worth-fits some = omega (arith, mul-le-mul_left worth some, passed.part)
-
-  pub passed-all : n ≤ k → set ≡ strike q n 1 set
+-- where process q is the one of bit j of the set, that bit is cleared, and no other
+module _ (q : ℕ) where
+  pub strike-same : (n j k set : ℕ) → q ≡ k + j → j < n → bit_at (strike q n k set) j ≡ 0
   unfolding strike
-  passed-all end =
-      let none : n - k ≡ 0 = omega arith in
-      let left : strike q (n - k) (k + 1) rest ≡ rest = ap (λ (m : ℕ). strike q m (k + 1) rest) none in
-      omega (arith, ap (λ (m : ℕ). worth * m) left, passed.part, passed.strikes)
+  strike-same zero j k set same below = absurd (omega arith)
+  strike-same (suc n) zero k set same below = rw (eq-eqb q k (omega arith), bit_at_lowest) (omega arith)
+  strike-same (suc n) (suc j) k set same below =
+      rw (ne_eqb q k (λ e. omega arith), bit_at-suc, half set (strike q n (k + 1) (set / 2))) (strike-same n j (k + 1) (set / 2) (omega arith) (omega arith))
 
-  module _ (below : k < n) where
-    more : n - k ≡ suc (n - (k + 1))
-    more = omega arith
+  pub strike-other : (n i k set : ℕ) → (q ≡ k + i → ⊥) → bit_at (strike q n k set) i ≡ bit_at set i
+  unfolding strike
+  strike-other zero i k set other = refl
+  strike-other (suc n) zero k set other = rw (ne_eqb q k (λ e. other (omega arith)), bit_at_lowest set, bit_at_lowest) (omega arith)
+  strike-other (suc n) (suc i) k set other =
+      cases (eqb q k)
+      (λ e. rw (e, bit_at-suc set i, bit_at-suc) (ap (λ (m : ℕ). bit_at m i) (omega arith)))
+      (λ e. rw (e, bit_at-suc set i, bit_at-suc, half set (strike q n (k + 1) (set / 2))) (strike-other n i (k + 1) (set / 2) (λ same. other (omega arith))))
 
-    pub strikes-here : q ≡ k + 1 → set - worth * (rest % 2) ≡ strike q n 1 set
-    unfolding strike
-    strikes-here same =
-        let left : strike q (n - k) (k + 1) rest ≡ 2 * (rest / 2) = ap (λ (m : ℕ). strike q m (k + 1) rest) more ∙ rw (eq-eqb q (k + 1) same) (omega arith) in
-        omega (arith, split, ap (λ (m : ℕ). worth * m) left, passed.part, passed.strikes)
+  pub strike-least : (n k set : ℕ) → strike q n k set ≤ set
+  unfolding strike
+  strike-least zero k set = omega arith
+  strike-least (suc n) k set = cases (eqb q k) (λ e. rw e (omega arith)) (λ e. rw e (omega (arith, strike-least n (k + 1) (set / 2))))
 
-    module _ (other : q ≡ k + 1 → ⊥) where
-      strikes-on : strike q (n - k) (k + 1) rest ≡ rest % 2 + 2 * strike q (n - (k + 1)) (k + 1 + 1) (rest / 2)
-      unfolding strike
-      strikes-on = ap (λ (m : ℕ). strike q m (k + 1) rest) more ∙ rw (ne_eqb q (k + 1) other)
+  -- nobody is struck off who is behind the last
+  strike-past : (n k set : ℕ) → k + n ≤ q → strike q n k set ≡ set
+  unfolding strike
+  strike-past zero k set past = refl
+  strike-past (suc n) k set past = rw (ne_eqb q k (λ e. omega arith), strike-past n (k + 1) (set / 2) (omega arith)) (omega arith)
 
-      -- behind the last bit there is nobody to strike off
-      pub strikes-nobody : rest < 2 → set ≡ strike q n 1 set
-      strikes-nobody last =
-          let none : rest / 2 ≡ 0 = omega arith in
-          let nothing : strike q (n - (k + 1)) (k + 1 + 1) (rest / 2) ≡ 0 = rw none (strike-nothing q (n - (k + 1)) (k + 1 + 1)) in
-          let left : strike q (n - k) (k + 1) rest ≡ rest = omega (arith, strikes-on) in
-          omega (arith, ap (λ (m : ℕ). worth * m) left, passed.part, passed.strikes)
+-- in a number of 64 bits
+module _ (q n set : ℕ) (fits : set < 2 ^ 64) where
+  least : strike q n 1 set < 2 ^ 64
+  least = omega (arith, strike-least q n 1 set)
 
-      pub passed-more : Passed q n set (rest / 2) (worth * 2) (k + 1)
-      passed-more =
-          record {
-            some = omega arith;
-            part = omega (arith, split, passed.part);
-            strikes = omega (arith, split, ap (λ (m : ℕ). worth * m) strikes-on, passed.part, passed.strikes);
-          }
+  -- who is struck off
+  pub struck-off : 1 ≤ q → q ≤ n → q ≤ 64 → bit_and set (bit_not w64 (1 * 2 ^ (q - 1) % 2 ^ 64)) ≡ strike q n 1 set
+  struck-off some few small =
+      let inside : q - 1 < 64 = omega arith in
+      same_from_bits_below 64 _ _ (omega (arith, and_le_l set (bit_not w64 (1 * 2 ^ (q - 1) % 2 ^ 64)))) least
+      (λ i below. cases (eqb (q - 1) i)
+      (λ e. rw (← eqb-true (q - 1) i e) (bit_at_clear_same w64 set (q - 1) inside ∙ sym (strike-same q n (q - 1) 1 set (omega arith) (omega arith))))
+      (λ e. let other : i ≡ q - 1 → ⊥ = λ same. eqb-false (q - 1) i e (sym same) in
+      bit_at_clear_other w64 set (q - 1) inside i below other ∙ sym (strike-other q n i 1 set (λ same. other (omega arith)))))
+
+  -- and who is not
+  pub nobody-off : (1 ≤ q → q ≤ n → 64 < q) → set ≡ strike q n 1 set
+  nobody-off out =
+      cases (ltb n q)
+      (λ e. sym (strike-past q n 1 set (omega (arith, ltb-true n q e))))
+      (λ e. same_from_bits_below 64 _ _ fits least (λ i below. sym (strike-other q n i 1 set (λ same. omega (arith, ltb-false n q e, out)))))

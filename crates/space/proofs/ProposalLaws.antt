@@ -1,7 +1,7 @@
 -- What may be proposed and decided, who has proposed what, and how many: the laws in document 01's words, from the definitions of proposals and the laws of sets.
 use mathlib.Core.Path.{◌≡◌, refl, sym, ap, ◌∙◌}
 use mathlib.Core.Logic.{◌↔◌, inl, inr}
-use mathlib.Core.Bool.{true, false≢true, or-true, or-false, and-false, and-eq-true_iff}
+use mathlib.Core.Bool.{Bool, true, ◌&&◌, false≢true, or-true, or-false, and-false, and-eq-true_iff}
 use mathlib.Core.List.Memᴰ
 use mathlib.Core.List.{List, [], ◌∷◌, Memᴰ}
 use Prim.Native.Nat.{ℕ, ◌+◌, ◌*◌, ◌/◌, ◌%◌, ◌≤◌, ◌<◌}
@@ -22,6 +22,7 @@ use Rattle.space.proofs.CodeLaws.{is-choice-rule, offered-some, offered-small, p
 use Rattle.space.proofs.MemberLaws.{counted-rule}
 use Rattle.space.proofs.ShapeLaws.{four}
 use Rattle.space.proofs.TallyLaws.{tally-rule, same_set}
+use Rattle.std.specs.List.{list_any}
 use Rattle.tuple.specs.declared.field.Tuple.{Tuple}
 use Rattle.tuple.specs.declared.offset.Offset.{Offset}
 use Rattle.tuple.specs.declared.offset.Offset.TheVariants.{Bottom, Hundredths}
@@ -185,3 +186,21 @@ backers-rule config tuples round set inside w =
       λ few.
           omega (arith, tally.2, few tally.0 (λ k. (λ m. let p = (tally.1 k).0 m in (p.0, (means k).0 p.1), λ p. (tally.1 k).1 (p.0, (means k).1 p.1)))),
     )
+
+-- ---- what a search answers
+
+pub proposed-any : (config : Config) (sought : Sought) (round process : ℕ) (tuples : List Tuple)
+    → list_any (λ tuple. proposes config sought round process tuple) tuples ≡ proposed config tuples sought round process
+unfolding proposed
+proposed-any config sought round process [] = refl
+proposed-any config sought round process (tuple ∷ tuples) = rw (proposed-any config sought round process tuples)
+
+module _ (config : Config) (all : List Tuple) (round set : ℕ) where
+  -- a proposal of the round of an offset that more than t members have proposed
+  abbrev pub crowds : Tuple → Bool
+  crowds tuple = is_proposal tuple && eqb (round_of tuple) round && ltb config.t (backers config all round set (proposed_code tuple))
+
+  pub crowded-any : (tuples : List Tuple) → list_any crowds tuples ≡ crowded_by config all round set tuples
+  unfolding crowded_by
+  crowded-any [] = refl
+  crowded-any (tuple ∷ tuples) = rw (crowded-any tuples)

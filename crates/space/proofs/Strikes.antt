@@ -6,7 +6,7 @@ use native.Mathlib.Omega.{arith}
 use mathlib.Core.Bool.{Bool, true, false, false≢true, cond, ◌&&◌, ◌||◌, and-true, or-true}
 use mathlib.Core.List.{List}
 use lib.Dec.{eqb}
-use lib.ListN.{length, take, drop, get_or}
+use lib.ListN.{length, drop, get_or}
 use borrow.Author.Tests.{eqb-true, eqb-false, eq-eqb, ne_eqb}
 use borrow.Table.Steps.{cases}
 use Rattle.space.specs.declared.config.Config.{Config}
@@ -15,7 +15,7 @@ use Rattle.space.specs.Members.{every, counted, strike}
 use Rattle.space.specs.Shapes.{process_of, is_proposal}
 use Rattle.space.specs.Proposals.{proposes, proposed}
 use Rattle.tuple.specs.declared.field.Tuple.{Tuple}
-use Rattle.tuple.proofs.Lists.{drop-take-step}
+use Rattle.tuple.proofs.Lists.{drop-step}
 
 -- a set without its lowest bit, and its lowest bit below another rest
 module _ (set : ℕ) where
@@ -124,22 +124,21 @@ module _ (config : Config) (sought : Sought) (round : ℕ) (tuple : Tuple) where
         (λ e. rw e (ap (λ (own : ℕ → Bool). every (λ k. own k || rest k) n 1 set) (proposes-none e)))
 
 -- one step of a pass that strikes them off
-module _ (config : Config) (sought : Sought) (round count : ℕ) (tuples : List Tuple) (i : ℕ) (d : Tuple) (below : i < count) (inside : i < length tuples)
-    (rest next : ℕ) (strikes : next ≡ struck config sought round (get_or tuples i d) config.n rest)
+module _ (config : Config) (sought : Sought) (round : ℕ) (tuples : List Tuple) (i : ℕ) (d : Tuple) (inside : i < length tuples) (rest next : ℕ)
+    (strikes : next ≡ struck config sought round (get_or tuples i d) config.n rest)
   where
     abbrev given : ℕ → ℕ → Bool
-    given at = proposed config (drop at (take count tuples)) sought round
+    given at = proposed config (drop at tuples) sought round
 
     first : given i ≡ (λ k. proposes config sought round k (get_or tuples i d) || given (i + 1) k)
     unfolding proposed
-    first = ap (λ (l : List Tuple). λ (k : ℕ). proposed config l sought round k) (drop-take-step count tuples i d below inside)
+    first = ap (λ (l : List Tuple). λ (k : ℕ). proposed config l sought round k) (drop-step tuples i d inside)
 
-    pub tally-step : (found : ℕ) → found ≡ cond (eqb next rest) 0 1
-        → counted (given i) config.n 1 rest ≡ found + counted (given (i + 1)) config.n 1 next
-    tally-step found differs =
+    pub tally-step : counted (given i) config.n 1 rest ≡ cond (eqb next rest) 0 1 + counted (given (i + 1)) config.n 1 next
+    tally-step =
         ap (λ (P : ℕ → Bool). counted P config.n 1 rest) first
         ∙ strike-tally config sought round (get_or tuples i d) (given (i + 1)) config.n rest
-        ∙ rw (← strikes, ← differs)
+        ∙ rw (← strikes)
 
     pub each_step : every (given i) config.n 1 rest ≡ every (given (i + 1)) config.n 1 next
     each_step =

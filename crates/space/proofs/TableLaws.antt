@@ -1,11 +1,11 @@
 -- The table of some tuples: what stands at its places, and that from it the questions about proposals are answered as by a search.
 use mathlib.Core.Path.{◌≡◌, refl, sym, ap, ◌∙◌}
-use Prim.Native.Nat.{ℕ, zero, suc, ◌+◌, ◌≤◌, ◌<◌, min}
+use Prim.Native.Nat.{ℕ, zero, suc, ◌+◌, ◌≤◌, ◌<◌}
 use native.Mathlib.Omega.{arith}
 use mathlib.Core.Bool.{Bool, true, false, cond, not, ◌&&◌, ◌||◌, and-eq-true_iff, or_assoc, and_assoc, or-false, false≢true}
 use mathlib.Core.List.{List, [], ◌∷◌, ◌++◌}
 use mathlib.Core.Logic.{◌⊎◌, inl, inr, ⊎_elim}
-use lib.ListN.{length, take, drop, get_or, set, length-set, length-replicate, get_or-replicate}
+use lib.ListN.{length, take, drop, drop_of_length-le, get_or, set, length-set, length-replicate, get_or-replicate}
 use lib.Seq.{get_or-set_same, get_or-set_other}
 use lib.Dec.{eqb}
 use borrow.Author.Tests.{eqb-true, eqb-false, eq-eqb, ne_eqb}
@@ -19,9 +19,10 @@ use Rattle.space.specs.Shapes.{is_proposal, round_of, process_of, proposed_code}
 use Rattle.space.specs.Tables.{place, code_at, belongs, entered, table_from, empty_table, table_of, fits_table, tabled_from, tabled, proposed_in}
 use Rattle.space.proofs.ProposalLaws.{proposes-rule}
 use Rattle.space.proofs.TableSteps.{HasPlace, place-parts, place-test, place-below, place_same}
+use Rattle.std.specs.Prelude.{Option, Some, None}
 use Rattle.tuple.specs.declared.field.Tuple.{Tuple}
 use Rattle.tuple.specs.Fields.{blank_tuple}
-use Rattle.tuple.proofs.Lists.{drop-take-step, drop-take-end}
+use Rattle.tuple.proofs.Lists.{drop-step}
 
 module _ (config : Config) where
   -- ---- lengths
@@ -97,33 +98,33 @@ module _ (config : Config) where
 
   -- ---- by the place that is looked up
 
-  module _ (table : List ℕ) (tuple : Tuple) (at : ℕ) (is : at ≡ cond (belongs config tuple) (place_of tuple) table_places) where
-    inside : at < table_places → (belongs config tuple ≡ true) × (at ≡ place_of tuple)
-    inside below =
-        cases (belongs config tuple) (λ e. (e, rw e at is)) (λ e. absurd (omega (arith, below, rw e at is)))
+  module _ (table : List ℕ) (tuple : Tuple) where
+    abbrev looked-up : Option ℕ
+    looked-up = cond (belongs config tuple) (Some (place_of tuple)) None
 
-    outside : table_places ≤ at → belongs config tuple ≡ false
-    outside above =
-        cases (belongs config tuple) (λ e. absurd (omega (arith, above, rw e at is, place-below (belongs-parts e).at))) (λ e. e)
+    found : (at : ℕ) → Some at ≡ looked-up → (belongs config tuple ≡ true) × (at ≡ place_of tuple)
+    found at is = cases (belongs config tuple) (λ e. (e, cc (rw e at is))) (λ e. cc (rw e at is))
 
-    pub enters : at < table_places → set table at (proposed_code tuple) ≡ entered config table tuple
+    missing : None ≡ looked-up → belongs config tuple ≡ false
+    missing is = cases (belongs config tuple) (λ e. cc (rw e at is)) (λ e. e)
+
+    pub entry-below : (at : ℕ) → Some at ≡ looked-up → at < table_places
+    entry-below at is = let f = found at is in omega (arith, f.1, place-below (belongs-parts f.0).at)
+
+    pub enters : (at : ℕ) → Some at ≡ looked-up → set table at (proposed_code tuple) ≡ entered config table tuple
     unfolding entered
-    enters below = let found = inside below in rw (found.0, found.1)
+    enters at is = let f = found at is in rw (f.0, f.1)
 
-    pub enters_none : table_places ≤ at → table ≡ entered config table tuple
-    enters_none above = sym (entered-out table tuple (outside above))
+    pub enters_none : None ≡ looked-up → table ≡ entered config table tuple
+    enters_none is = sym (entered-out table tuple (missing is))
 
-    pub fits_out : table_places ≤ at → true ≡ fits_table config table tuple
-    unfolding fits_table
-    fits_out above = rw (outside above)
-
-    pub fits-never : at < table_places → offered config (proposed_code tuple) ≡ false → false ≡ fits_table config table tuple
-    unfolding fits_table
-    fits-never below not-offered = rw ((inside below).0, not-offered)
-
-    pub fits-free : at < table_places → offered config (proposed_code tuple) ≡ true → eqb (get_or table at 0) 0 ≡ fits_table config table tuple
+    pub fits_found : (at : ℕ) → Some at ≡ looked-up → offered config (proposed_code tuple) && eqb (get_or table at 0) 0 ≡ fits_table config table tuple
     unfolding fits_table code_at
-    fits-free below may = let found = inside below in rw (found.0, may, place-test (belongs-parts found.0).at, found.1)
+    fits_found at is = let f = found at is in rw (f.0, place-test (belongs-parts f.0).at, f.1)
+
+    pub fits_none : None ≡ looked-up → true ≡ fits_table config table tuple
+    unfolding fits_table
+    fits_none is = rw (missing is)
 
   -- ---- the table of a list
 
@@ -267,30 +268,28 @@ module _ (config : Config) where
       (λ e. rw e (refl, refl))
       (λ e. let none = table-out e empty_table (take n l) in rw e (sym none.1, sym none.0))
 
-  module _ (table : List ℕ) (n : ℕ) (l : List Tuple) (i : ℕ) where
-    abbrev left : List Tuple
-    left = drop i (take n l)
+  -- the first i are passed
+  module _ (table : List ℕ) (l : List Tuple) (i : ℕ) where
+    module _ (d : Tuple) (inside : i < length l) where
+      next : drop i l ≡ get_or l i d ∷ drop (i + 1) l
+      next = drop-step l i d inside
 
-    module _ (d : Tuple) (below : i < n) (inside : i < length l) where
-      next : left ≡ get_or l i d ∷ drop (i + 1) (take n l)
-      next = drop-take-step n l i d below inside
-
-      pub tabled-stop : fits_table config table (get_or l i d) ≡ false → false ≡ tabled_from config table left
+      pub tabled-stop : fits_table config table (get_or l i d) ≡ false → false ≡ tabled_from config table (drop i l)
       unfolding tabled_from
       tabled-stop never = rw (next, never)
 
       pub tabled-more : fits_table config table (get_or l i d) ≡ true
-          → tabled_from config (entered config table (get_or l i d)) (drop (i + 1) (take n l)) ≡ tabled_from config table left
+          → tabled_from config (entered config table (get_or l i d)) (drop (i + 1) l) ≡ tabled_from config table (drop i l)
       unfolding tabled_from
       tabled-more fits = rw (next, fits)
 
-      pub table_more : table_from config (entered config table (get_or l i d)) (drop (i + 1) (take n l)) ≡ table_from config table left
+      pub table_more : table_from config (entered config table (get_or l i d)) (drop (i + 1) l) ≡ table_from config table (drop i l)
       unfolding table_from
       table_more = rw next
 
-    pub tabled-end : min n (length l) ≤ i → (true ≡ tabled_from config table left) × (table ≡ table_from config table left)
+    pub tabled-end : length l ≤ i → (true ≡ tabled_from config table (drop i l)) × (table ≡ table_from config table (drop i l))
     unfolding tabled_from table_from
-    tabled-end past = rw (drop-take-end n l i past) (refl, refl)
+    tabled-end past = rw (drop_of_length-le l {i = i} past) (refl, refl)
 
   -- ---- what is proposed, by the table
 

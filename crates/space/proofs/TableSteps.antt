@@ -1,20 +1,23 @@
 -- The places of the table, and what is entered there.
 use mathlib.Core.Path.{◌≡◌, refl, sym, ap, ◌∙◌}
-use Prim.Native.Nat.{ℕ, zero, suc, ◌+◌, ◌-◌, ◌≤◌, ◌<◌}
+use Prim.Native.Nat.{ℕ, zero, suc, ◌+◌, ◌≤◌, ◌<◌}
 use native.Mathlib.Omega.{arith}
-use mathlib.Core.Bool.{true, false, cond, and-eq-true_iff}
+use mathlib.Core.Bool.{true, false≢true, cond, and-eq-true_iff}
 use mathlib.Core.List.{List}
-use lib.ListN.{get_or}
+use lib.ListN.{length, get_or}
+use lib.Seq.{ext_get_or}
 use lib.Dec.{eqb}
 use mathlib.Core.Logic.{◌↔◌}
-use borrow.Author.Tests.{ltb-true, lt-ltb, leb-true, le-leb, eqb-true, eqb-false, eq-eqb, ne_eqb}
+use borrow.Author.Tests.{ltb-true, lt-ltb, leb-true, le-leb, eqb-true, eqb-false, eq-eqb}
 use borrow.Table.Steps.{cases}
 use Rattle.space.specs.declared.config.Config.{Config}
-use Rattle.space.specs.declared.proposal.Sought.{Sought}
 use Rattle.space.specs.Bounds.{table_places}
 use Rattle.space.specs.Configs.{known}
-use Rattle.space.specs.Proposals.{is_sought}
-use Rattle.space.specs.Tables.{has_place, place, code_at, same_from, same_table, proposed_in}
+use Rattle.space.specs.Tables.{has_place, place, code_at, same_from, same_table}
+use Rattle.std.specs.Cmp.Lexicographic.{pointwise}
+use Rattle.std.specs.Prelude.{Option, Some, None}
+use Rattle.std.proofs.lemmas.Bool.Decides.{Decides-eqb}
+use Rattle.std.proofs.lemmas.Slice.Eq.{slice_eq-Decides}
 use Rattle.tuple.proofs.NoFault.{between}
 
 -- ---- places
@@ -52,29 +55,26 @@ known_some config process h = between 1 process config.n h
 
 -- ---- what a place that was looked up holds
 
-module _ (config : Config) (table : List ℕ) (round process at : ℕ) (is : at ≡ cond (has_place config round process) (place round process) table_places) where
-  pub code-found : at < table_places → get_or table at 0 ≡ code_at config table round process
-  unfolding code_at
-  code-found below =
+module _ (config : Config) (table : List ℕ) (round process : ℕ) where
+  abbrev looked-up : Option ℕ
+  looked-up = cond (has_place config round process) (Some (place round process)) None
+
+  pub found-below : (at : ℕ) → Some at ≡ looked-up → at < table_places
+  found-below at is =
       cases (has_place config round process)
-      (λ e. rw e (ap (λ (i : ℕ). get_or table i 0) (rw e at is)))
-      (λ e. absurd (omega (arith, below, rw e at is)))
+      (λ e. let same : at ≡ place round process = cc (rw e at is) in omega (arith, place-below (place-parts e)))
+      (λ e. cc (rw e at is))
 
-  pub code-none : table_places ≤ at → 0 ≡ code_at config table round process
+  pub code-found : (at : ℕ) → Some at ≡ looked-up → get_or table at 0 ≡ code_at config table round process
   unfolding code_at
-  code-none above =
+  code-found at is =
       cases (has_place config round process)
-      (λ e. absurd (omega (arith, above, rw e at is, place-below (place-parts e))))
-      (λ e. rw e)
+      (λ e. let same : at ≡ place round process = cc (rw e at is) in rw (e, same))
+      (λ e. cc (rw e at is))
 
-module _ (config : Config) (table : List ℕ) (sought : Sought) (round process code : ℕ) (is : code ≡ code_at config table round process) where
-  pub proposed-none : code ≡ 0 → false ≡ proposed_in config table sought round process
-  unfolding proposed_in
-  proposed-none none = rw (eq-eqb (code_at config table round process) 0 (sym is ∙ none))
-
-  pub proposed-some : (code ≡ 0 → ⊥) → is_sought config sought code ≡ proposed_in config table sought round process
-  unfolding proposed_in
-  proposed-some some = rw (ne_eqb (code_at config table round process) 0 (λ e. some (is ∙ e)), is)
+  pub code-none : None ≡ looked-up → 0 ≡ code_at config table round process
+  unfolding code_at
+  code-none is = cases (has_place config round process) (λ e. cc (rw e at is)) (λ e. rw e)
 
 -- ---- tables that are equal
 
@@ -96,19 +96,10 @@ same-rule a b = let rule = same-places table_places 0 a b in (λ h j below. rule
 pub same-itself : (table : List ℕ) → same_table table table ≡ true
 same-itself table = (same-rule table table).1 (λ j below. refl)
 
--- place by place, in a loop
-module _ (a b : List ℕ) (i : ℕ) where
-  more_left : i < table_places → table_places - i ≡ suc (table_places - (i + 1))
-  more_left below = omega arith
-
-  pub same_more : i < table_places → get_or a i 0 ≡ get_or b i 0 → same_from (table_places - (i + 1)) (i + 1) a b ≡ same_from (table_places - i) i a b
-  unfolding same_from
-  same_more below e = rw (more_left below, eq-eqb (get_or a i 0) (get_or b i 0) e)
-
-  pub same_stop : i < table_places → (get_or a i 0 ≡ get_or b i 0 → ⊥) → false ≡ same_from (table_places - i) i a b
-  unfolding same_from
-  same_stop below differ = rw (more_left below, ne_eqb (get_or a i 0) (get_or b i 0) differ)
-
-  pub same_end : table_places ≤ i → true ≡ same_from (table_places - i) i a b
-  unfolding same_from
-  same_end above = let none : table_places - i ≡ 0 = omega arith in rw none
+-- what == answers of two tables
+pub same-tables : (a b : List ℕ) → length a ≡ table_places → length b ≡ table_places → pointwise eqb a b ≡ same_table a b
+same-tables a b long wide =
+    let equal = slice_eq-Decides Decides-eqb a b (pointwise eqb a b) refl in
+    cases (same_table a b)
+    (λ e. rw e (equal.1 (ext_get_or 0 a b (long ∙ sym wide) (λ i below. (same-rule a b).0 e i (omega (arith, below, long))))))
+    (λ e. rw e (cases (pointwise eqb a b) (λ f. absurd (false≢true (sym e ∙ (same-rule a b).1 (λ j below. ap (λ (l : List ℕ). get_or l j 0) (equal.0 f))))) (λ f. f)))

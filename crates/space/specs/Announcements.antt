@@ -1,8 +1,6 @@
 -- Document 02, 2.7: announcements, as they stand in a space: their shape and parts, and a process's oldest one.
-use Rattle.std.specs.Prelude.{◌≡◌, ℕ, ◌<◌, Bool, true, cond, not, ◌&&◌, length, get_or, eqb}
+use Rattle.std.specs.Prelude.{◌≡◌, ℕ, ◌<◌, Bool, true, cond, not, ◌&&◌, length, get_or, eqb, None, Option, Some}
 use mathlib.Core.List.{List, [], ◌∷◌, Memᴰ}
-use Rattle.space.specs.declared.announcement.Announced.{Announced}
-use Rattle.space.specs.declared.announcement.Announced.TheVariants.{Shift, Silent}
 use Rattle.tuple.specs.declared.field.Tuple.{Tuple}
 use Rattle.tuple.specs.Fields.{blank_tuple}
 use Rattle.tuple.specs.Forms.{announcement_shape}
@@ -31,9 +29,9 @@ unfoldable pub announces : ℕ → Tuple → Bool
 announces process tuple = is_announcement tuple && eqb (announcer_of tuple) process
 
 -- the oldest announcement of a process
-unfoldable pub announced_of : List Tuple → ℕ → Announced
-announced_of [] process = Silent
-announced_of (tuple ∷ tuples) process = cond (announces process tuple) (Shift (announced_serial tuple) (announced_code tuple)) (announced_of tuples process)
+unfoldable pub announced_of : List Tuple → ℕ → Option (ℕ × ℕ)
+announced_of [] process = None
+announced_of (tuple ∷ tuples) process = cond (announces process tuple) (Some (announced_serial tuple, announced_code tuple)) (announced_of tuples process)
 
 -- ---- in document 02's words
 

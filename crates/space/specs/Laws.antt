@@ -1,10 +1,9 @@
 -- The laws of configurations, sets, proposals and spaces, as claims over the definitions, in the words of documents 01 and 02.
-use Rattle.std.specs.Prelude.{◌≡◌, ◌↔◌, ◌⊎◌, Bool, true, false, List, ℕ, ◌+◌, ◌*◌, ◌≤◌, ◌<◌, pos, get_or}
+use Rattle.std.specs.Prelude.{None, Some, ◌≡◌, ◌↔◌, ◌⊎◌, Bool, true, false, List, ℕ, ◌+◌, ◌*◌, ◌≤◌, ◌<◌, pos, get_or}
 use Rattle.std.specs.Int.Count.{ones}
 use Rattle.space.specs.declared.config.Config.{Config}
-use Rattle.space.specs.declared.proposal.Sought.TheVariants.{One, Some, Any}
+use Rattle.space.specs.declared.proposal.Sought.TheVariants as sought
 use Rattle.space.specs.declared.space.Space.{Space}
-use Rattle.space.specs.declared.announcement.Announced.TheVariants.{Shift, Silent}
 use Rattle.space.specs.Announcements.{is_announcement, announcer_of, announced_serial, announced_code, announced_of, Announcing, Oldest}
 use Rattle.space.specs.Configs.{sound, has_proposals, has_list}
 use Rattle.space.specs.Lists.{listed_process, is_list_tuple, position_of, serial_of, shift_code, is_filled, is_listed, Filled, Listed}
@@ -90,10 +89,10 @@ OfferedAlone = (config : Config) (code : ℕ) → (config.policy ≡ 2 → ⊥) 
 
 -- a process has proposed an offset exactly when such a tuple stands
 pub record ProposedRule (config : Config) (tuples : List Tuple) (round process : ℕ) : Type 0 where
-  pub one : (w : ℕ) → (proposed config tuples (One w) round process ≡ true) ↔ Proposed config tuples round process w
-  pub some : (proposed config tuples Some round process ≡ true) ↔ ((w : ℕ) × Proposed config tuples round process w)
+  pub one : (w : ℕ) → (proposed config tuples (sought.One w) round process ≡ true) ↔ Proposed config tuples round process w
+  pub some : (proposed config tuples sought.Some round process ≡ true) ↔ ((w : ℕ) × Proposed config tuples round process w)
   -- its place is taken exactly when such a tuple stands, of an offset or bottom
-  pub taken : (proposed config tuples Any round process ≡ true) ↔ Placed tuples round process
+  pub taken : (proposed config tuples sought.Any round process ≡ true) ↔ Placed tuples round process
 
 abbrev pub ProposedRules : Type 0
 ProposedRules = (config : Config) (tuples : List Tuple) (round process : ℕ) → ProposedRule config tuples round process
@@ -147,8 +146,8 @@ AnnouncementRule =
 
 -- what a process has announced is its oldest announcement, and nothing exactly when none stands
 pub record AnnouncedRule (tuples : List Tuple) (process : ℕ) : Type 0 where
-  pub shift : (serial code : ℕ) → (announced_of tuples process ≡ Shift serial code) ↔ Oldest tuples process serial code
-  pub silent : (announced_of tuples process ≡ Silent) ↔ (Announcing tuples process → ⊥)
+  pub shift : (serial code : ℕ) → (announced_of tuples process ≡ Some (serial, code)) ↔ Oldest tuples process serial code
+  pub silent : (announced_of tuples process ≡ None) ↔ (Announcing tuples process → ⊥)
 
 abbrev pub AnnouncedRules : Type 0
 AnnouncedRules = (tuples : List Tuple) (process : ℕ) → AnnouncedRule tuples process

@@ -1,8 +1,6 @@
 -- Document 02, 2.6: the list of shifts that all processes share, as its tuples stand in a space: their shape and parts, and what is listed.
 use Rattle.std.specs.Prelude.{◌≡◌, ℕ, Bool, true, false, ◌&&◌, ◌||◌, eqb}
 use mathlib.Core.List.{List, [], ◌∷◌, Memᴰ}
-use Rattle.space.specs.declared.list.Wanted.{Wanted}
-use Rattle.space.specs.declared.list.Wanted.TheVariants.{Position, Serial}
 use Rattle.tuple.specs.declared.field.Tuple.{Tuple}
 use Rattle.tuple.specs.Forms.{list_tuple_shape}
 use Rattle.tuple.specs.Shapes.{field, has_shape}
@@ -28,26 +26,28 @@ shift_code tuple = (field tuple 4).value
 
 -- ---- what is listed
 
--- one of the list tuples that are looked for: of this position, or of this process and serial
-abbrev pub is_wanted : Wanted → Tuple → Bool
-is_wanted (Position position) tuple = eqb (position_of tuple) position
-is_wanted (Serial process serial) tuple = eqb (listed_process tuple) process && eqb (serial_of tuple) serial
-
-unfoldable pub lists : Wanted → Tuple → Bool
-lists wanted tuple = is_list_tuple tuple && is_wanted wanted tuple
+-- a list tuple that passes a test
+unfoldable pub lists : (Tuple → Bool) → Tuple → Bool
+lists test tuple = is_list_tuple tuple && test tuple
 
 -- such a tuple stands in the space
-unfoldable pub is_there : Wanted → List Tuple → Bool
-is_there wanted [] = false
-is_there wanted (tuple ∷ tuples) = lists wanted tuple || is_there wanted tuples
+unfoldable pub is_there : (Tuple → Bool) → List Tuple → Bool
+is_there test [] = false
+is_there test (tuple ∷ tuples) = lists test tuple || is_there test tuples
 
 -- a list tuple of this position stands there
+abbrev pub has_position : ℕ → Tuple → Bool
+has_position position tuple = eqb (position_of tuple) position
+
 unfoldable pub is_filled : List Tuple → ℕ → Bool
-is_filled tuples position = is_there (Position position) tuples
+is_filled tuples position = is_there (has_position position) tuples
 
 -- this process and serial are listed, at some position, with some shift
+abbrev pub has_serial : ℕ → ℕ → Tuple → Bool
+has_serial process serial tuple = eqb (listed_process tuple) process && eqb (serial_of tuple) serial
+
 unfoldable pub is_listed : List Tuple → ℕ → ℕ → Bool
-is_listed tuples process serial = is_there (Serial process serial) tuples
+is_listed tuples process serial = is_there (has_serial process serial) tuples
 
 -- ---- in document 02's words
 

@@ -21,6 +21,10 @@ unfoldable pub every : (ℕ → Bool) → ℕ → ℕ → ℕ → Bool
 every test zero k set = true
 every test (suc n) k set = (eqb (set % 2) 0 || test k) && every test n (k + 1) (set / 2)
 
+-- what a call answers for each of the processes up to n is what the test says of it
+abbrev pub Answers : ℕ → (ℕ → Bool → Type 0) → (ℕ → Bool) → Type 0
+Answers n post test = (k : ℕ) (answer : Bool) → k ≤ n → post k answer → answer ≡ test k
+
 -- how many members from k to k + n - 1 pass
 unfoldable pub counted : (ℕ → Bool) → ℕ → ℕ → ℕ → ℕ
 counted test zero k set = 0

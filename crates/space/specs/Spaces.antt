@@ -1,14 +1,13 @@
 -- Document 01, "What is returned, and for what": a space (01's board), the tuples that it holds, and when it is well formed.
-use Rattle.std.specs.Prelude.{◌≡◌, ℕ, zero, suc, ◌-◌, Bool, true, false, cond, ◌&&◌, length, take, replicate, leb}
+use Rattle.std.specs.Prelude.{◌≡◌, ℕ, zero, suc, ◌-◌, Bool, true, false, cond, ◌&&◌, length, take, replicate, leb, Err, Ok, Result}
 use mathlib.Core.List.{List, [], ◌∷◌, ◌++◌, Memᴰ}
 use Rattle.space.specs.declared.config.Config.{Config}
-use Rattle.space.specs.declared.space.Opening.TheVariants.{Stands, Unopened}
-use Rattle.space.specs.declared.space.Opened.{Opened}
 use Rattle.space.specs.declared.space.Space.{Space}
 use Rattle.space.specs.Bounds.{table_places}
 use Rattle.space.specs.Configs.{sound, blank_config}
 use Rattle.space.specs.Tables.{table_of, tabled, same_table}
 use Rattle.tuple.specs.declared.field.Tuple.{Tuple}
+use Rattle.tuple.specs.declared.refusal.Refusal.{Refusal}
 use Rattle.tuple.specs.Faults.{is_entry, rest_blank}
 use Rattle.tuple.specs.Bounds.{places, capacity}
 use Rattle.tuple.specs.Fields.{blank_tuple}
@@ -55,10 +54,13 @@ well_formed space = bounded space && places_from space.count space.tuples && tab
 
 -- ---- a fresh space
 
--- it holds no tuple; a configuration that is not sound is refused 1, and the space beside is blank
-unfoldable pub fresh_of : Config → Opened
-fresh_of config =
-    cond (sound config) (record { opening = Stands; space = space_of config [] }) (record { opening = Unopened (refusal 1); space = space_of blank_config [] })
+-- it holds no tuple; a configuration that is not sound is refused 1
+unfoldable pub fresh_of : Config → Result Space Refusal
+fresh_of config = cond (sound config) (Ok (space_of config [])) (Err (refusal 1))
+
+-- the space that a list of calls begins with: the fresh one, and a blank one where none stands
+unfoldable pub fresh_space : Config → Space
+fresh_space config = space_of (cond (sound config) config blank_config) []
 
 -- ---- what the laws ask of a space
 

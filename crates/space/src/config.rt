@@ -28,32 +28,24 @@ impl Config {
     }
 
     // Whether n is 1 to 31, the policy at most 5, and n and k are what the policy needs.
+    #[tactic(auto, unfolding(crate::specs::Configs::sound))]
     pub fn is_sound(self) -> bool
         ensures { result ≡ sound self }
     {
-        let n = self.n;
-        if n < 1 {
-            return false;
-        }
-        if (PROCESSES as u64) < n {
-            return false;
-        }
-        if self.has_choices() {
-            choice_sound(self)
-        } else {
-            plain_sound(self)
-        }
+        (1..=PROCESSES as u64).contains(&self.n)
+            && if self.has_choices() {
+                choice_sound(self)
+            } else {
+                plain_sound(self)
+            }
     }
 
     // Whether decisions rest on proposals: policies 2 and 3.
+    #[tactic(auto, unfolding(crate::specs::Configs::has_proposals))]
     pub fn has_proposals(self) -> bool
         ensures { result ≡ has_proposals self }
     {
-        if self.policy == 2 {
-            true
-        } else {
-            self.has_choices()
-        }
+        self.policy == 2 || self.has_choices()
     }
 
     // Whether offsets are chosen among k: policy 3.
@@ -64,14 +56,11 @@ impl Config {
     }
 
     // Whether the processes share a list: policies 4 and 5.
+    #[tactic(auto, unfolding(crate::specs::Configs::has_list))]
     pub fn has_list(self) -> bool
         ensures { result ≡ has_list self }
     {
-        if self.policy == 4 {
-            true
-        } else {
-            self.has_announcements()
-        }
+        self.policy == 4 || self.has_announcements()
     }
 
     // Whether a process may announce what is to be listed: policy 5.
@@ -86,41 +75,27 @@ impl Config {
     pub fn knows(self, process: u64) -> bool
         ensures { result ≡ known self process }
     {
-        if 1 <= process {
-            process <= self.n
-        } else {
-            false
-        }
+        1 <= process && process <= self.n
     }
 }
 
 // Under policy 3: whether k is 2 to 8, and n at least (k + 1)t + 1.
+#[tactic(auto, unfolding(crate::specs::Configs::choice_sound))]
 fn choice_sound(config: Config) -> bool
     requires { 1 ≤ config.n }
     ensures { result ≡ choice_sound config }
 {
-    let k = config.k;
-    if k < FEWEST_CHOICES {
-        return false;
-    }
-    if MOST_CHOICES < k {
-        return false;
-    }
-    is_enough(config.n, config.t, k + 1)
+    (FEWEST_CHOICES..=MOST_CHOICES).contains(&config.k)
+        && is_enough(config.n, config.t, config.k + 1)
 }
 
 // Under the others, up to the last: whether k is 0, and n at least 3t + 1.
+#[tactic(auto, unfolding(crate::specs::Configs::plain_sound))]
 fn plain_sound(config: Config) -> bool
     requires { 1 ≤ config.n }
     ensures { result ≡ plain_sound config }
 {
-    if LAST_POLICY < config.policy {
-        return false;
-    }
-    if config.k != 0 {
-        return false;
-    }
-    is_enough(config.n, config.t, 3)
+    config.policy <= LAST_POLICY && config.k == 0 && is_enough(config.n, config.t, 3)
 }
 
 // Whether n is at least share × t + 1, tested by a division, which no t wraps.

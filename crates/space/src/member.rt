@@ -1,60 +1,67 @@
 // Sets of processes as numbers: process k is the bit worth 2 to the power k - 1.
-ghost use Rattle.std.specs.Prelude.{◌≡◌, false};
-ghost use Rattle.space.specs.Members.{within as within·, every, strike as strike·};
+ghost use Rattle.std.specs.Prelude.{◌≡◌, ℕ, Bool, false};
+ghost use Rattle.space.specs.Members.{within as within·, Answers, every, counted, strike as strike·};
 
-// Whether all of a set is in 1 to n.
+// Whether all of a set is in 1 to n. A set is of 64 bits.
 pub fn within(n: u64, set: u64) -> bool
     ensures { result ≡ within· n set }
 {
+    64 <= n || set >> n == 0
+}
+
+// Whether every member of a set, in 1 to n, passes a test.
+pub(crate) fn every_member<F: Fn(u64) -> bool>(n: u64, set: u64, passes: F) -> bool
+    requires { F.IsAlwaysCallable passes }
+    ensures { (test : _) → Answers n (F.post passes) test → result ≡ every test n 1 set }
+{
     let mut rest = set;
-    let mut k: u64 = 0;
-    while k < n {
+    for k in 1..=n {
+        // Nobody is left: most sets have few high bits.
         if rest == 0 {
-            return true;
+            break;
+        }
+        if rest % 2 == 1 && !passes(k) {
+            return false;
         }
         rest /= 2;
-        k += 1;
     }
-    rest == 0
+    true
+}
+
+// How many members of a set, in 1 to n, pass a test.
+pub(crate) fn count_members<F: Fn(u64) -> bool>(n: u64, set: u64, passes: F) -> u64
+    requires { F.IsAlwaysCallable passes }
+    ensures { (test : _) → Answers n (F.post passes) test → result ≡ counted test n 1 set }
+{
+    let mut total = 0;
+    let mut rest = set;
+    for k in 1..=n {
+        // Nobody is left.
+        if rest == 0 {
+            break;
+        }
+        if rest % 2 == 1 && passes(k) {
+            total += 1;
+        }
+        rest /= 2;
+    }
+    total
 }
 
 // Whether none of 1 to n is in a set.
 pub(crate) fn has_none(n: u64, set: u64) -> bool
     ensures { result ≡ every (λ k. false) n 1 set }
 {
-    let mut rest = set;
-    let mut k: u64 = 0;
-    while k < n {
-        if rest == 0 {
-            return true;
-        }
-        if rest % 2 != 0 {
-            return false;
-        }
-        rest /= 2;
-        k += 1;
-    }
-    true
+    every_member(n, set, |_| false)
 }
 
-// A set without a process, if that is one of 1 to n. The bits are passed from the lowest on; what is left of the set is `rest`, and its
-// lowest bit is worth `worth`.
+// A set without a process, if that is one of 1 to n. A set is of 64 bits, so that processes above 64 are in none.
 pub(crate) fn strike(process: u64, n: u64, set: u64) -> u64
     ensures { result ≡ strike· process n 1 set }
 {
-    let mut rest = set;
-    let mut worth: u64 = 1;
-    let mut k: u64 = 0;
-    while k < n {
-        if process == k + 1 {
-            return set - worth * (rest % 2);
-        }
-        if rest < 2 {
-            return set;
-        }
-        rest /= 2;
-        worth *= 2;
-        k += 1;
+    if 1 <= process && process <= n && process <= 64 {
+        set & !(1 << (process - 1))
+    } else {
+        set
     }
-    set
 }

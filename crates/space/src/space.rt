@@ -1,12 +1,12 @@
 // A space: its configuration, its tuples, oldest first, with blanks behind them, and the table of what they propose.
 ghost use Rattle.std.specs.Prelude.{◌≡◌, ◌≤◌, cond, []};
 ghost use Rattle.space.specs.Configs.{has_proposals};
-ghost use Rattle.space.specs.Spaces.{space_of, places_from, table_sound, is_bounded, well_formed, fresh_of};
+ghost use Rattle.space.specs.Spaces.{held as held·, space_of, places_from, table_sound, is_bounded, well_formed, fresh_of};
 ghost use Rattle.tuple.specs.Bounds.{capacity};
 
 use crate::bounds::PLACES;
 use crate::config::Config;
-use crate::table::{enter, fits_table, same_table};
+use crate::table::{enter, fits_table};
 use tuple::{Refusal, TUPLES, Tuple};
 
 #[repr(C)]
@@ -19,60 +19,44 @@ pub struct Space {
     pub table: [u64; PLACES],
 }
 
-// Whether a fresh space stands.
-#[derive(Clone, Copy)]
-pub enum Opening {
-    Stands,
-    Unopened(Refusal),
-}
-
-#[derive(Clone, Copy)]
-pub struct Opened {
-    pub opening: Opening,
-    pub space: Space,
-}
-
 // A fresh space, or refusal 1.
-pub fn fresh(config: Config) -> Opened
+#[tactic(auto, unfolding(crate::specs::Spaces::fresh_of))]
+pub fn fresh(config: Config) -> Result<Space, Refusal>
     ensures { result ≡ fresh_of config }
 {
     if config.is_sound() {
-        Opened {
-            opening: Opening::Stands,
-            space: empty(config),
-        }
+        Ok(Space::empty(config))
     } else {
-        Opened {
-            opening: Opening::Unopened(Refusal::Unsound),
-            space: empty(Config::blank()),
-        }
+        Err(Refusal::Unsound)
     }
 }
 
-// The space of a configuration that holds nothing.
-fn empty(config: Config) -> Space
-    ensures { result ≡ space_of config [] }
+// The tuples that a space holds, oldest first.
+pub(crate) fn held(space: &Space) -> &[Tuple]
+    ensures { result.now ≡ held· space.now }
 {
-    Space {
-        config,
-        count: 0,
-        tuples: [Tuple::blank(); TUPLES],
-        table: [0; PLACES],
-    }
+    &space.tuples[..space.count.min(TUPLES)]
 }
 
 impl Space {
+    // The space of a configuration that holds nothing.
+    pub fn empty(config: Config) -> Self
+        ensures { result ≡ space_of config [] }
+    {
+        Space {
+            config,
+            count: 0,
+            tuples: [Tuple::blank(); TUPLES],
+            table: [0; PLACES],
+        }
+    }
+
     // Whether a space is well formed.
+    #[tactic(auto, unfolding(crate::specs::Spaces::well_formed, crate::specs::Spaces::bounded))]
     pub fn is_well_formed(self) -> bool
         ensures { result ≡ well_formed self }
     {
-        if !is_bounded(self.config, self.count) {
-            return false;
-        }
-        if !places_sound(self) {
-            return false;
-        }
-        table_sound(self)
+        is_bounded(self.config, self.count) && places_sound(self) && table_sound(self)
     }
 }
 
@@ -80,11 +64,7 @@ impl Space {
 pub fn is_bounded(config: Config, count: usize) -> bool
     ensures { result ≡ is_bounded config count }
 {
-    if config.is_sound() {
-        count <= TUPLES
-    } else {
-        false
-    }
+    config.is_sound() && count <= TUPLES
 }
 
 // Whether each used place holds an entry, and each other place nothing.
@@ -92,23 +72,8 @@ fn places_sound(space: Space) -> bool
     requires { space.count ≤ capacity }
     ensures { result ≡ places_from space.count space.tuples }
 {
-    let count = space.count;
-    let mut i = 0;
-    while i < count {
-        let tuple = space.tuples[i];
-        if !tuple.is_entry() {
-            return false;
-        }
-        i += 1;
-    }
-    while i < TUPLES {
-        let tuple = space.tuples[i];
-        if !tuple.is_unused() {
-            return false;
-        }
-        i += 1;
-    }
-    true
+    let (used, unused) = space.tuples.split_at(space.count);
+    used.iter().all(|tuple| tuple.is_entry()) && unused.iter().all(|tuple| tuple.is_unused())
 }
 
 // Whether the tuples held have a table, and it is the space's.
@@ -118,17 +83,14 @@ fn table_sound(space: Space) -> bool
 {
     let config = space.config;
     let count = count_tabled(config, space.count);
-    let mut table = [0u64; PLACES];
-    let mut i = 0;
-    while i < count {
-        let tuple = space.tuples[i];
-        if !fits_table(config, &table, tuple) {
+    let mut table = [0; PLACES];
+    for tuple in &space.tuples[..count] {
+        if !fits_table(config, &table, *tuple) {
             return false;
         }
-        enter(config, &mut table, tuple);
-        i += 1;
+        enter(config, &mut table, *tuple);
     }
-    same_table(&space.table, &table)
+    space.table == table
 }
 
 // How many tuples have to be looked at: none where the policy does not rest on proposals.

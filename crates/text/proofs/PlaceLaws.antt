@@ -1,49 +1,68 @@
 -- Texts put one behind the other are put as one, places included. From the definitions of `sets` and `behind`.
 use mathlib.Core.Path.{◌≡◌, refl, sym, ap, ◌∙◌}
-use Prim.Native.Nat.{ℕ, suc, ◌+◌, ◌^◌, ◌≤◌, ◌<◌}
+use Prim.Native.Nat.{ℕ, suc, ◌+◌, ◌-◌, ◌≤◌, min}
 use native.Mathlib.Omega.{arith}
 use mathlib.Core.List.{List, [], ◌∷◌, ◌++◌}
-use lib.ListN.{length, drop, set, length-append, length-set}
+use lib.ListN.{length, take, drop, set, take-append-drop, length-append, length-set, length-take, drop_of_length-le}
 use lib.Dec.{leb}
-use lib.Seq.{sets, set_out, sets-eq, length-sets}
+use lib.Seq.{sets, set_out, sets-eq, length-sets, take_all}
+use borrow.Rule.Slice.PartMut.{put_mid}
+use Rattle.std.proofs.lemmas.Slice.{put_mid-paste}
 use borrow.Author.Tests.{leb-true, leb-false}
 use borrow.Table.Steps.{cases}
 use Rattle.text.specs.Places.{largest_place, behind}
-
--- t was put from the place `at` on, and the next place is behind it
-abbrev pub Wrote : List ℕ → ℕ → List ℕ → ℕ → List ℕ → Type 0
-Wrote before at t next after = (next ≡ behind at (length t)) × (after ≡ sets before at t)
+use Rattle.text.specs.Printers.{Puts}
+use Rattle.text.specs.declared.bytes.Printer.{Printer}
 
 sets-append : (t u l : List ℕ) (i : ℕ) → sets l i (t ++ u) ≡ sets (sets l i t) (i + length t) u
 sets-append [] u l i = ap (λ (k : ℕ). sets l k u) (omega arith)
 sets-append (a ∷ t) u l i = sets-append t u (set l i a) (suc i) ∙ ap (λ (k : ℕ). sets (sets (set l i a) (suc i) t) k u) (omega arith)
 
 -- behind the buffer's end nothing is stored
-sets-out : (t l : List ℕ) (i : ℕ) → length l ≤ i → sets l i t ≡ l
+pub sets-out : (t l : List ℕ) (i : ℕ) → length l ≤ i → sets l i t ≡ l
 sets-out [] l i out = refl
 sets-out (a ∷ t) l i out = sets-out t (set l i a) (suc i) (omega (arith, length-set l i a)) ∙ set_out l i a out
 
 -- so it does not matter that the places end
-sets_behind : (t l : List ℕ) (at n : ℕ) → length l < 2 ^ 64 → sets l (behind at n) t ≡ sets l (at + n) t
+sets_behind : (t l : List ℕ) (at n : ℕ) → length l ≤ largest_place → sets l (behind at n) t ≡ sets l (at + n) t
 sets_behind t l at n small =
     cases (leb (at + n) largest_place)
     (λ e. ap (λ (k : ℕ). sets l k t) (omega (arith, leb-true (at + n) largest_place e)))
     (λ e. let far = leb-false (at + n) largest_place e in sets-out t l (behind at n) (omega arith) ∙ sym (sets-out t l (at + n) (omega arith)))
 
--- two texts, one behind the other, are one
-pub wrote_then : (before : List ℕ) (at : ℕ) → length before < 2 ^ 64 → (t u : List ℕ) {middle next : ℕ} {between after : List ℕ}
-    → Wrote before at t middle between → Wrote between middle u next after → Wrote before at (t ++ u) next after
-wrote_then before at small t u {middle} {next} {between} first second = (
-  omega (arith, length-append t u, first.0, second.0),
-  second.1
-      ∙ ap (λ (l : List ℕ). sets l middle u) first.1
-      ∙ ap (λ (k : ℕ). sets (sets before at t) k u) first.0
-      ∙ sets_behind u (sets before at t) at (length t) (omega (arith, length-sets before at t))
-      ∙ sym (sets-append t u before at),
-)
+-- as much of a text as the buffer has room for is put as the whole text is
+pub sets-part : (t l : List ℕ) (at n k : ℕ) → at ≤ length l → n ≡ min (length t) (length l - at) → n ≡ k → put_mid at k l (take n t) ≡ sets l at t
+sets-part t l at n k inside most same =
+    let long : n ≡ length (take n t) = omega (arith, length-take n t) in
+    let rest : sets (sets l at (take n t)) (at + length (take n t)) (drop n t) ≡ sets l at (take n t) =
+    cases (leb (length t) (length l - at))
+    (λ e. ap (sets (sets l at (take n t)) (at + length (take n t))) (drop_of_length-le t {i = n} (omega (arith, leb-true (length t) (length l - at) e))))
+    (λ e. sets-out (drop n t) _ (at + length (take n t)) (omega (arith, leb-false (length t) (length l - at) e, length-sets l at (take n t)))) in
+    put_mid-paste at k l (take n t) (take n t) n refl same long
+    ∙ ap (λ (u : List ℕ). take at l ++ u ++ drop (at + n) l) (take_all n (take n t) (omega arith))
+    ∙ ap (λ (m : ℕ). take at l ++ take n t ++ drop (at + m) l) long
+    ∙ sym (sets-eq (take n t) l at (omega arith))
+    ∙ sym (ap (sets l at) (sym (take-append-drop n t)) ∙ sets-append (take n t) (drop n t) l at ∙ rest)
 
-pub wrote-length : (before : List ℕ) (at : ℕ) (t : List ℕ) {next : ℕ} {after : List ℕ} → Wrote before at t next after → length after ≡ length before
-wrote-length before at t wrote = ap length wrote.1 ∙ length-sets before at t
+-- two texts, one behind the other, are one
+pub puts_then : {before between after : Printer} {t u : List ℕ} → Puts before between t → Puts between after u → Puts before after (t ++ u)
+puts_then {before} {between} {t = t} {u} first second =
+    let out = before.out.now in
+    let at = before.at in
+    record {
+      same_buffer = second.same_buffer ∙ first.same_buffer;
+      bytes =
+          second.bytes
+          ∙ ap (λ (l : List ℕ). sets l between.at u) first.bytes
+          ∙ ap (λ (k : ℕ). sets (sets out at t) k u) first.at
+          ∙ sets_behind u (sets out at t) at (length t) (omega (arith, length-sets out at t, before.fits))
+          ∙ sym (sets-append t u out at);
+      at = omega (arith, length-append t u, first.at, second.at);
+    }
+
+-- what stays as it is has no text put
+pub puts_nothing : (printer : Printer) → Puts printer printer []
+puts_nothing printer = record { same_buffer = refl; bytes = refl; at = omega (arith, printer.counts) }
 
 -- a text that has room from the start of the buffer on
 pub whole-text : (before t : List ℕ) → length t ≤ length before → sets before 0 t ≡ t ++ drop (length t) before

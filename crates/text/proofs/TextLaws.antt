@@ -2,10 +2,9 @@
 use mathlib.Core.Path.{◌≡◌, sym, ap, ◌∙◌}
 use Prim.Native.Nat.{ℕ, suc, ◌+◌, ◌-◌, ◌/◌, ◌%◌, ◌<◌}
 use native.Mathlib.Omega.{arith}
-use native.Mathlib.Numerals.{add-one}
 use mathlib.Core.List.{List, [], ◌∷◌, ◌++◌, append_assoc, append-nil}
-use lib.ListN.{length, take, get_or, length-take}
-use lib.Seq.{take-suc, get_or-take}
+use lib.ListN.{length, take, get_or}
+use Rattle.std.proofs.lemmas.List.{take_more}
 use lib.Dec.{eqb}
 use lib.IntN.{pos, neg_ℤ}
 use borrow.Author.Tests.{ne_eqb}
@@ -14,7 +13,7 @@ use Rattle.text.specs.Digits.{decimal}
 use Rattle.text.specs.Texts.{minus, offset_text, value_text, letter_text, field_text, fields_text}
 use Rattle.tuple.specs.declared.field.Field.{Field}
 use Rattle.tuple.specs.declared.offset.Offset.TheVariants.{Hundredths}
-use Rattle.tuple.specs.Fields.{word, count, offset, blank_field}
+use Rattle.tuple.specs.Fields.{word, count, offset}
 use Rattle.tuple.specs.Offsets.{offset_of}
 
 -- ---- an offset
@@ -48,9 +47,9 @@ unfolding fields_text
 fields_snoc [] field = append-nil (field_text field)
 fields_snoc (f ∷ fields) field = rw (fields_snoc fields field) (sym (append_assoc (field_text f) (fields_text fields) (field_text field)))
 
-pub fields-more : (n : ℕ) (fields : List Field) (i : ℕ) → i < n → i < length fields
-    → fields_text (take i (take n fields)) ++ field_text (get_or fields i blank_field) ≡ fields_text (take (i + 1) (take n fields))
-fields-more n fields i few inside =
-    sym (fields_snoc (take i (take n fields)) (get_or fields i blank_field))
-    ∙ ap (λ (f : Field). fields_text (take i (take n fields) ++ (f ∷ []))) (sym (get_or-take n fields i blank_field few))
-    ∙ sym (ap fields_text (rw add-one (take-suc (take n fields) i blank_field (simp length-take (omega arith)))))
+pub fields-more : (fields : List Field) (i : ℕ) (field : Field) → i < length fields → field ≡ get_or fields i field
+    → fields_text (take i fields) ++ field_text field ≡ fields_text (take (i + 1) fields)
+fields-more fields i field inside is =
+    sym (fields_snoc (take i fields) field)
+    ∙ ap (λ (f : Field). fields_text (take i fields ++ (f ∷ []))) is
+    ∙ sym (ap fields_text (take_more fields i field inside))

@@ -1,40 +1,42 @@
-// Bytes put at a place of a buffer.
-ghost use Rattle.std.specs.Prelude.{◌≡◌, length, set};
-ghost use Rattle.std.proofs.lemmas.List.Edits.{sets};
-ghost use Rattle.text.specs.Places.{behind};
+// A buffer and the place in it behind what was put.
+ghost use Rattle.std.specs.Prelude.{◌≡◌, ◌≤◌, length};
+ghost use Rattle.text.specs.Places.{largest_place};
 
-// No buffer reaches it.
-const LARGEST_PLACE: usize = 18_446_744_073_709_551_615;
-
-pub fn put(out: &mut [u8], at: usize, bytes: &[u8]) -> usize
-    ensures value { result ≡ behind at (length bytes.now) }
-    ensures out_after { out.new ≡ sets out.old at bytes.now }
-{
-    let mut place = at;
-    let mut i = 0;
-    while i < bytes.len() {
-        store(out, place, bytes[i]);
-        place = next(place);
-        i += 1;
-    }
-    place
+// What would stand behind the buffer's end is counted and not stored. The count stops at the largest place.
+#[derive(Drop)]
+pub struct Printer<'a> {
+    out: &'a mut [u8],
+    at: usize,
+    ghost fits: { length out.now ≤ largest_place },
+    ghost counts: { at ≤ largest_place },
 }
 
-// Stores a byte, if the place is in the buffer.
-fn store(out: &mut [u8], at: usize, byte: u8)
-    ensures { out.new ≡ set out.old at byte }
-{
-    if at < out.len() {
-        out[at] = byte;
-    }
-}
+impl<'a> Printer<'a> {
+    ghost use Rattle.text.specs.Printers.{Starts, Puts};
 
-// The place behind a byte.
-fn next(at: usize) -> usize
-    ensures { result ≡ behind at 1 }
-{
-    if at < LARGEST_PLACE {
-        return at + 1;
+    // At the start of a buffer.
+    pub fn new(out: &'a mut [u8]) -> Printer<'a>
+        ensures { Starts result out.entry }
+    {
+        Printer { out, at: 0 }
     }
-    at
+
+    // The place behind what was put.
+    pub fn place(&self) -> usize
+        ensures { result ≡ self.now.at }
+    {
+        self.at
+    }
+
+    // Puts the bytes that the buffer has room for.
+    pub fn put(&mut self, bytes: &[u8])
+        ensures { Puts self.old self.new bytes.now }
+    {
+        let at = self.at;
+        if at < self.out.len() {
+            let room = bytes.len().min(self.out.len() - at);
+            self.out[at..at + room].copy_from_slice(&bytes[..room]);
+        }
+        self.at = at.saturating_add(bytes.len());
+    }
 }

@@ -1,20 +1,18 @@
 -- The test of equal calls passes exactly for equal ones, place by place. From the definitions.
-use mathlib.Core.Path.{◌≡◌, refl, ap, ap₂, ◌∙◌}
-use mathlib.Core.Bool.{Bool, true, false≢true, ◌&&◌, and-eq-true_iff}
+use mathlib.Core.Path.{◌≡◌, refl, sym, ap₂, ◌∙◌}
+use mathlib.Core.Bool.{Bool, true, false≢true, ◌&&◌, and_assoc, and-eq-true_iff}
 use mathlib.Core.List.{List, [], ◌∷◌}
 use mathlib.Core.Logic.{◌↔◌}
-use Prim.Native.Nat.{ℕ, ◌+◌, ◌<◌}
+use Prim.Native.Nat.{ℕ}
 use native.Mathlib.Omega.{arith}
 use lib.Dec.{eqb}
-use lib.ListN.{length, drop, get_or}
+use lib.Pointwise.{pointwise}
 use borrow.Author.Tests.{eqb-true, eq-eqb}
 use Rattle.tuple.specs.declared.field.Field.{Field}
 use Rattle.tuple.specs.declared.field.Tuple.{Tuple}
 use Rattle.tuple.specs.declared.field.Call.{Call}
 use Rattle.tuple.specs.Equality.{same_field, same_fields, same_tuple, same_call}
-use Rattle.tuple.specs.Fields.{blank_field}
 use Rattle.tuple.specs.Laws.{SameCallRule}
-use Rattle.tuple.proofs.Lists.{drop-step}
 
 same_number : (a b : ℕ) → (eqb a b ≡ true) ↔ (a ≡ b)
 same_number a b = (eqb-true a b, eq-eqb a b)
@@ -67,10 +65,21 @@ same-call-rule a b =
       λ e. parts.1 ((((cc), cc), cc), cc),
     )
 
--- ---- field by field
+-- ---- the derived `==`, which groups its tests to the right
 
--- from the place j on, what is left decides
-pub fields-step : (a b : List Field) (j : ℕ) → j < length a → j < length b
-    → same_fields (drop j a) (drop j b) ≡ same_field (get_or a j blank_field) (get_or b j blank_field) && same_fields (drop (j + 1) a) (drop (j + 1) b)
+derived-fields : (same : Field → Field → Bool) → ((a b : Field) → same a b ≡ same_field a b) → (a b : List Field) → pointwise same a b ≡ same_fields a b
 unfolding same_fields
-fields-step a b j inside within = rw (drop-step a j blank_field inside, drop-step b j blank_field within)
+derived-fields same e [] [] = refl
+derived-fields same e [] (b ∷ rest) = refl
+derived-fields same e (a ∷ more) [] = refl
+derived-fields same e (a ∷ more) (b ∷ rest) = ap₂ (λ (s t : Bool). s && t) (e a b) (derived-fields same e more rest)
+
+pub derived-call : (same : Field → Field → Bool) → ((a b : Field) → same a b ≡ (eqb a.kind b.kind && (eqb a.state b.state && eqb a.value b.value))) → (a b : Call)
+    → (eqb a.process b.process && (eqb a.code b.code
+    && ((eqb a.template.count b.template.count && pointwise same a.template.fields b.template.fields)
+    && (eqb a.entry.count b.entry.count && pointwise same a.entry.fields b.entry.fields))))
+    ≡ same_call a b
+unfolding same_call same_tuple same_field
+derived-call same e a b =
+    let fields = derived-fields same (λ x y. e x y ∙ sym (and_assoc (eqb x.kind y.kind) (eqb x.state y.state) (eqb x.value y.value))) in
+    rw (fields a.template.fields b.template.fields, fields a.entry.fields b.entry.fields) (simp and_assoc)

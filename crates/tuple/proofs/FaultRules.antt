@@ -7,11 +7,11 @@ use mathlib.Core.Bool.{Bool, true, false, false≢true, ◌&&◌, ◌||◌, and-
 use mathlib.Core.List.{List, [], ◌∷◌}
 use mathlib.Core.Logic.{◌↔◌, ◌⊎◌, inl, inr, ⊎_elim}
 use lib.ListN.{length, take, get_or}
-use lib.Dec.{leb, ltb, eqb}
-use borrow.Author.Tests.{le-leb, lt-ltb, leb-true, ltb-true, ltb-false, eqb-true, eqb-false, eq-eqb}
+use lib.Dec.{leb, ltb}
+use borrow.Author.Tests.{le-leb, leb-true, ltb-true, ltb-false, eqb-true, eqb-false, eq-eqb}
 use borrow.Table.Steps.{cases}
-use Rattle.tuple.specs.declared.fault.Fault.{Fault}
-use Rattle.tuple.specs.declared.fault.Fault.TheVariants.{Absent, Present}
+use Rattle.std.specs.Prelude.{Err, Ok}
+use Rattle.tuple.specs.Refusals.{Verdict}
 use Rattle.tuple.specs.declared.field.Field.{Field}
 use Rattle.tuple.specs.declared.field.Tuple.{Tuple}
 use Rattle.tuple.specs.declared.field.Call.{Call}
@@ -19,7 +19,7 @@ use Rattle.tuple.specs.declared.refusal.Refusal.{Refusal}
 use Rattle.tuple.specs.Bounds.{places, largest_word, largest_count, largest_code, largest_set}
 use Rattle.tuple.specs.Fields.{out, cas, largest_of, blank_field}
 use Rattle.tuple.specs.Faults.{unless, first, known_head, is_defined, field_fault, fields_fault, tuple_fault, part_fault, uses_template, uses_entry, used_fault, is_blank, place_blank, rest_from, rest_blank, call_fault, is_absent, is_entry}
-use Rattle.tuple.specs.FaultLaws.{Headed, Within, SoundField, FieldRefused, Counted, SoundTuple, TupleRefused, ZeroField, ZeroRest, ZeroTuple, KnownCode, HasTemplate, HasEntry, SoundParts, ZeroParts, SoundCall, CallRefused, FaultRule, FaultRules, EntryRules}
+use Rattle.tuple.specs.FaultLaws.{Headed, Within, SoundField, FieldRefused, Counted, SoundTuple, TupleRefused, ZeroField, ZeroRest, ZeroTuple, KnownCode, HasTemplate, HasEntry, SoundParts, ZeroParts, SoundCall, CallRefused, FaultRules, EntryRules}
 use Rattle.tuple.specs.FaultLaws.FieldRefused.{unknown-head, undefined-field, beyond-kind}
 use Rattle.tuple.specs.FaultLaws.TupleRefused.{miscounted, at_field}
 use Rattle.tuple.specs.FaultLaws.HasEntry.{of-out, of-cas}
@@ -31,32 +31,32 @@ use Rattle.tuple.proofs.RefusalLaws.{numbered}
 
 -- ---- what a fault says, by whether it is one
 
-unfoldable Says : Type 0 → (ℕ → Type 0) → Fault → Type 0
-Says sound refused Absent = sound
-Says sound refused (Present why) = refused (number_of why)
+unfoldable Says : Type 0 → (ℕ → Type 0) → Verdict → Type 0
+Says sound refused (Ok _) = sound
+Says sound refused (Err why) = refused (number_of why)
 
 -- the number of a fault's refusal, 0 for none
-abbrev fault_number : Fault → ℕ
-fault_number Absent = 0
-fault_number (Present why) = number_of why
+abbrev fault_number : Verdict → ℕ
+fault_number (Ok _) = 0
+fault_number (Err why) = number_of why
 
-abbrev is_there : Fault → ℕ
-is_there Absent = 0
-is_there (Present why) = 1
+abbrev is_there : Verdict → ℕ
+is_there (Ok _) = 0
+is_there (Err why) = 1
 
 module _ (sound : Type 0) (refused : ℕ → Type 0) (apart : (r : ℕ) → sound → refused r → ⊥) where
-  exactly-none : (fault : Fault) → Says sound refused fault → (fault ≡ Absent) ↔ sound
+  exactly-none : (fault : Verdict) → Says sound refused fault → (fault ≡ Ok tt) ↔ sound
   unfolding Says
-  exactly-none Absent says = (λ e. says, λ s. refl)
-  exactly-none (Present why) says = (λ e. absurd (omega (arith, ap is_there e)), λ s. absurd (apart _ s says))
+  exactly-none (Ok _) says = (λ e. says, λ s. refl)
+  exactly-none (Err why) says = (λ e. absurd (omega (arith, ap is_there e)), λ s. absurd (apart _ s says))
 
-  exactly-some : ((r q : ℕ) → refused r → refused q → r ≡ q) → (fault : Fault) → Says sound refused fault → (why : Refusal)
-      → (fault ≡ Present why) ↔ refused (number_of why)
+  exactly-some : ((r q : ℕ) → refused r → refused q → r ≡ q) → (fault : Verdict) → Says sound refused fault → (why : Refusal)
+      → (fault ≡ Err why) ↔ refused (number_of why)
   unfolding Says
-  exactly-some one Absent says why = (λ e. absurd (omega (arith, ap is_there e)), λ r. absurd (apart _ says r))
-  exactly-some one (Present what) says why = (
+  exactly-some one (Ok _) says why = (λ e. absurd (omega (arith, ap is_there e)), λ r. absurd (apart _ says r))
+  exactly-some one (Err what) says why = (
     λ e. subst refused (ap fault_number e) says,
-    λ r. ap Present (sym (numbered what) ∙ ap refusal (one _ _ says r) ∙ numbered why),
+    λ r. ap Err (sym (numbered what) ∙ ap refusal (one _ _ says r) ∙ numbered why),
   )
 
 -- ---- a field
@@ -138,19 +138,19 @@ pub record Refused (entry : Bool) (n : ℕ) (fields : List Field) (r : ℕ) : Ty
 abbrev AllSound : Bool → ℕ → List Field → Type 0
 AllSound entry n fields = (i : ℕ) → i < n → SoundField entry (get_or fields i blank_field)
 
-fields-first : (entry : Bool) (n : ℕ) (f : Field) (fields : List Field) (head rest : Fault) → Says (SoundField entry f) (FieldRefused entry f) head
+fields-first : (entry : Bool) (n : ℕ) (f : Field) (fields : List Field) (head rest : Verdict) → Says (SoundField entry f) (FieldRefused entry f) head
     → Says (AllSound entry n fields) (Refused entry n fields) rest
     → Says (AllSound entry (suc n) (f ∷ fields)) (Refused entry (suc n) (f ∷ fields)) (first head rest)
 unfolding Says
-fields-first entry n f fields Absent Absent sound all = elim [ zero ↦ λ below. sound | suc i ↦ λ below. all i (omega arith) ]
-fields-first entry n f fields Absent (Present why) sound r =
+fields-first entry n f fields (Ok _) (Ok _) sound all = elim [ zero ↦ λ below. sound | suc i ↦ λ below. all i (omega arith) ]
+fields-first entry n f fields (Ok _) (Err why) sound r =
     record {
       i = suc r.i;
       below = omega (arith, r.below);
       before = elim [ zero ↦ λ below. sound | suc j ↦ λ below. r.before j (omega arith) ];
       why = r.why;
     }
-fields-first entry n f fields (Present why) rest r all = record { i = 0; below = omega arith; before = λ j below. absurd (omega arith); why = r }
+fields-first entry n f fields (Err why) rest r all = record { i = 0; below = omega arith; before = λ j below. absurd (omega arith); why = r }
 
 fields-says : (entry : Bool) (n : ℕ) (fields : List Field) → n ≤ length fields
     → Says (AllSound entry n fields) (Refused entry n fields) (fields_fault entry (take n fields))
@@ -165,12 +165,12 @@ fields-says entry (suc n) (f ∷ fields) h = fields-first entry n f fields (fiel
 counted-rule : (tuple : Tuple) → (leb 1 tuple.count && leb tuple.count places ≡ true) ↔ Counted tuple
 counted-rule tuple = (between 1 tuple.count places, λ h. rw (le-leb 1 tuple.count h.0, le-leb tuple.count places h.1))
 
-counted-says : (entry : Bool) (tuple : Tuple) → Counted tuple → (fault : Fault)
+counted-says : (entry : Bool) (tuple : Tuple) → Counted tuple → (fault : Verdict)
     → Says (AllSound entry tuple.count tuple.fields) (Refused entry tuple.count tuple.fields) fault
     → Says (SoundTuple entry tuple) (TupleRefused entry tuple) fault
 unfolding Says
-counted-says entry tuple counted Absent all = record { count = counted; fields = all }
-counted-says entry tuple counted (Present why) r = at_field r.i _ counted r.below r.before r.why
+counted-says entry tuple counted (Ok _) all = record { count = counted; fields = all }
+counted-says entry tuple counted (Err why) r = at_field r.i _ counted r.below r.before r.why
 
 tuple-says : (entry : Bool) (tuple : Tuple) → length tuple.fields ≡ places → Says (SoundTuple entry tuple) (TupleRefused entry tuple) (tuple_fault entry tuple)
 unfolding tuple_fault Says
@@ -306,11 +306,11 @@ entry_known (of-cas e) = (omega (arith, e), omega (arith, e))
 
 -- a part of a call that has it is the tuple; of one that has it not, nothing is asked
 module _ (entry : Bool) (tuple : Tuple) (six : length tuple.fields ≡ places) (Has : Type 0) where
-  part-fault : (fault : Fault) → Has → Says (SoundTuple entry tuple) (TupleRefused entry tuple) fault
+  part-fault : (fault : Verdict) → Has → Says (SoundTuple entry tuple) (TupleRefused entry tuple) fault
       → Says (Has → SoundTuple entry tuple) (λ (r : ℕ). Has × TupleRefused entry tuple r) fault
   unfolding Says
-  part-fault Absent h sound = λ h. sound
-  part-fault (Present why) h r = (h, r)
+  part-fault (Ok _) h sound = λ h. sound
+  part-fault (Err why) h r = (h, r)
 
   part_says : (used : Bool) → (used ≡ true) ↔ Has → Says (Has → SoundTuple entry tuple) (λ (r : ℕ). Has × TupleRefused entry tuple r) (part_fault tuple used entry)
   unfolding part_fault Says
@@ -327,14 +327,14 @@ module _ (entry : Bool) (tuple : Tuple) (six : length tuple.fields ≡ places) (
     λ z. (unused-rest tuple six).1 (z.1 (λ a. false≢true (has.1 a))),
   )
 
-parts-says : (call : Call) → KnownCode call → (template entry : Fault)
+parts-says : (call : Call) → KnownCode call → (template entry : Verdict)
     → Says (HasTemplate call → SoundTuple false call.template) (λ (r : ℕ). HasTemplate call × TupleRefused false call.template r) template
     → Says (HasEntry call → SoundTuple true call.entry) (λ (r : ℕ). HasEntry call × TupleRefused true call.entry r) entry
     → Says (SoundParts call) (CallRefused call) (first template entry)
 unfolding Says
-parts-says call known Absent Absent template entry = record { code = known; template = template; entry = entry }
-parts-says call known Absent (Present why) template entry = in_entry _ template entry.0 entry.1
-parts-says call known (Present why) entry template rest = in-template _ template.0 template.1
+parts-says call known (Ok _) (Ok _) template entry = record { code = known; template = template; entry = entry }
+parts-says call known (Ok _) (Err why) template entry = in_entry _ template entry.0 entry.1
+parts-says call known (Err why) entry template rest = in-template _ template.0 template.1
 
 code-rule : (call : Call) → (leb out call.code && leb call.code cas ≡ true) ↔ KnownCode call
 code-rule call = (between 1 call.code 4, λ h. rw (le-leb 1 call.code h.0, le-leb call.code 4 h.1))
@@ -360,14 +360,14 @@ module _ (call : Call) (t : length call.template.fields ≡ places) (e : length 
         λ z. (and-eq-true_iff _ _).1 (template.1 (z.template, z.no-template), entry.1 (z.entry, z.no-entry)),
       )
 
-  whole_says : (fault : Fault) → Says (SoundParts call) (CallRefused call) fault
-      → Says (SoundCall call) (CallRefused call) (first fault (unless (rest_blank call.template (uses_template call.code) && rest_blank call.entry (uses_entry call.code)) (refusal 5) Absent))
+  whole_says : (fault : Verdict) → Says (SoundParts call) (CallRefused call) fault
+      → Says (SoundCall call) (CallRefused call) (first fault (unless (rest_blank call.template (uses_template call.code) && rest_blank call.entry (uses_entry call.code)) (refusal 5) (Ok tt)))
   unfolding Says
-  whole_says Absent parts =
+  whole_says (Ok _) parts =
       cases (rest_blank call.template (uses_template call.code) && rest_blank call.entry (uses_entry call.code))
       (λ z. rw z (record { parts = parts; unused = zero-rule.0 z }))
       (λ z. rw z (not-zero parts (λ zero. false≢true (sym z ∙ zero-rule.1 zero))))
-  whole_says (Present why) r = r
+  whole_says (Err why) r = r
 
   call-says : Says (SoundCall call) (CallRefused call) (call_fault call)
   unfolding call_fault

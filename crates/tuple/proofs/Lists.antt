@@ -3,7 +3,7 @@ use mathlib.Core.Path.{◌≡◌, sym, ap, ap₂, ◌∙◌}
 use Prim.Native.Nat.{ℕ, suc, ◌+◌, ◌-◌, ◌≤◌, ◌<◌, min}
 use native.Mathlib.Omega.{arith}
 use native.Mathlib.Numerals.{add-one}
-use mathlib.Core.Bool.{Bool, true, false, ◌&&◌, ◌||◌}
+use mathlib.Core.Bool.{Bool, true, false, ◌&&◌}
 use mathlib.Core.List.{List, [], ◌∷◌}
 use lib.ListN.{length, take, drop, get_or, length-take, drop_of_length-le}
 use lib.Dec.{ltb}
@@ -45,20 +45,3 @@ module _ {A : Type 0} (test : A → Bool → Bool) (from : ℕ → List A → Bo
 
     pub places-stop : test (get_or l i d) (ltb i count) ≡ false → false ≡ from (count - i) (drop i l)
     places-stop e = sym (rw e at places-step)
-
--- A search of the first n elements for one that passes: one step, for any test and any function that goes so.
-module _ {A : Type 0} (test : A → Bool) (some : List A → Bool) (none : some [] ≡ false) (one : (a : A) (l : List A) → some (a ∷ l) ≡ test a || some l)
-    (n : ℕ) (l : List A) (i : ℕ) (passed : some (drop i (take n l)) ≡ some (take n l))
-  where
-    module _ (d : A) (below : i < n) (inside : i < length l) where
-      some-step : test (get_or l i d) || some (drop (i + 1) (take n l)) ≡ some (take n l)
-      some-step = sym (one (get_or l i d) (drop (i + 1) (take n l))) ∙ ap some (sym (drop-take-step n l i d below inside)) ∙ passed
-
-      pub some-here : test (get_or l i d) ≡ true → true ≡ some (take n l)
-      some-here e = rw e at some-step
-
-      pub some_more : test (get_or l i d) ≡ false → some (drop (i + 1) (take n l)) ≡ some (take n l)
-      some_more e = rw e at some-step
-
-    pub some-none : min n (length l) ≤ i → false ≡ some (take n l)
-    some-none h = sym none ∙ ap some (sym (drop-take-end n l i h)) ∙ passed

@@ -8,8 +8,8 @@ use mathlib.Core.List.{List, [], ◌∷◌}
 use lib.ListN.{take, get_or}
 use lib.Dec.{leb, eqb}
 use borrow.Author.Tests.{leb-true, eqb-true, not-true}
-use Rattle.tuple.specs.declared.fault.Fault.{Fault}
-use Rattle.tuple.specs.declared.fault.Fault.TheVariants.{Absent, Present}
+use Rattle.std.specs.Prelude.{Err, Ok}
+use Rattle.tuple.specs.Refusals.{Verdict}
 use Rattle.tuple.specs.declared.field.Field.{Field}
 use Rattle.tuple.specs.declared.field.Tuple.{Tuple}
 use Rattle.tuple.specs.declared.field.Call.{Call}
@@ -27,13 +27,13 @@ between least n most h = let tests = (and-eq-true_iff (leb least n) (leb n most)
 
 -- ---- faults
 
-pub unless-absent : (t : Bool) (refusal : Refusal) (next : Fault) → unless t refusal next ≡ Absent → (t ≡ true) × (next ≡ Absent)
+pub unless-absent : (t : Bool) (refusal : Refusal) (next : Verdict) → unless t refusal next ≡ Ok tt → (t ≡ true) × (next ≡ Ok tt)
 unless-absent true refusal next h = (refl, h)
 unless-absent false refusal next h = let z : ◌≡◌ {A = ℕ} 0 1 = cc in absurd (omega arith)
 
-pub first_absent : (a b : Fault) → first a b ≡ Absent → (a ≡ Absent) × (b ≡ Absent)
-first_absent Absent b h = (refl, h)
-first_absent (Present refusal) b h = let z : ◌≡◌ {A = ℕ} 0 1 = cc in absurd (omega arith)
+pub first_absent : (a b : Verdict) → first a b ≡ Ok tt → (a ≡ Ok tt) × (b ≡ Ok tt)
+first_absent (Ok _) b h = (refl, h)
+first_absent (Err refusal) b h = let z : ◌≡◌ {A = ℕ} 0 1 = cc in absurd (omega arith)
 
 -- ---- a field
 
@@ -48,12 +48,12 @@ pub record PassedField (entry : Bool) (field : Field) : Type 0 where
   pub shaped : is_defined field ≡ false → entry ≡ false
   pub small : is_defined field ≡ true → field.value ≤ largest_of field.kind
 
-pub field-sound : (entry : Bool) (field : Field) → field_fault entry field ≡ Absent → PassedField entry field
+pub field-sound : (entry : Bool) (field : Field) → field_fault entry field ≡ Ok tt → PassedField entry field
 unfolding field_fault
 field-sound entry field h =
     let known = unless-absent (known_head field) Unknown _ h in
     let shaped = unless-absent (not entry || is_defined field) Misshapen _ known.1 in
-    let small = unless-absent (not (is_defined field) || leb field.value (largest_of field.kind)) Beyond Absent shaped.1 in
+    let small = unless-absent (not (is_defined field) || leb field.value (largest_of field.kind)) Beyond (Ok tt) shaped.1 in
     record {
       known = known.0;
       shaped = λ d. not-true entry (simp (d, or-false) at shaped.0);
@@ -62,8 +62,8 @@ field-sound entry field h =
 
 -- ---- the fields of a tuple
 
-pub fields-sound : (entry : Bool) (field : Field) (fields : List Field) → fields_fault entry (field ∷ fields) ≡ Absent
-    → PassedField entry field × (fields_fault entry fields ≡ Absent)
+pub fields-sound : (entry : Bool) (field : Field) (fields : List Field) → fields_fault entry (field ∷ fields) ≡ Ok tt
+    → PassedField entry field × (fields_fault entry fields ≡ Ok tt)
 unfolding fields_fault
 fields-sound entry field fields h =
     let parts = first_absent (field_fault entry field) (fields_fault entry fields) h in (field-sound entry field parts.0, parts.1)
@@ -71,9 +71,9 @@ fields-sound entry field fields h =
 pub record PassedTuple (entry : Bool) (tuple : Tuple) : Type 0 where
   pub some : 1 ≤ tuple.count
   pub few : tuple.count ≤ places
-  pub fields : fields_fault entry (take tuple.count tuple.fields) ≡ Absent
+  pub fields : fields_fault entry (take tuple.count tuple.fields) ≡ Ok tt
 
-pub tuple-sound : (entry : Bool) (tuple : Tuple) → tuple_fault entry tuple ≡ Absent → PassedTuple entry tuple
+pub tuple-sound : (entry : Bool) (tuple : Tuple) → tuple_fault entry tuple ≡ Ok tt → PassedTuple entry tuple
 unfolding tuple_fault
 tuple-sound entry tuple h =
     let counted = unless-absent (leb 1 tuple.count && leb tuple.count places) Misshapen _ h in
@@ -82,11 +82,11 @@ tuple-sound entry tuple h =
 
 -- ---- an entry of a space
 
-pub absent : (fault : Fault) → is_absent fault ≡ true → fault ≡ Absent
-absent Absent h = refl
-absent (Present refusal) h = absurd (false≢true h)
+pub absent : (fault : Verdict) → is_absent fault ≡ true → fault ≡ Ok tt
+absent (Ok _) h = refl
+absent (Err refusal) h = absurd (false≢true h)
 
-small-field : (n : ℕ) (fields : List Field) (i : ℕ) → fields_fault true (take n fields) ≡ Absent → i < n
+small-field : (n : ℕ) (fields : List Field) (i : ℕ) → fields_fault true (take n fields) ≡ Ok tt → i < n
     → is_defined (get_or fields i blank_field) ≡ true → (get_or fields i blank_field).value ≤ largest_of (get_or fields i blank_field).kind
 small-field zero fields i sound below d = absurd (omega arith)
 small-field (suc n) [] i sound below d = omega arith
@@ -107,7 +107,7 @@ entry-small kind tuple i entry below h =
 
 -- a part of a call, used or not
 pub record PassedPart (used entry : Bool) (tuple : Tuple) : Type 0 where
-  pub fault : part_fault tuple used entry ≡ Absent
+  pub fault : part_fault tuple used entry ≡ Ok tt
   pub rest : rest_blank tuple used ≡ true
 
 pub record PassedCall (call : Call) : Type 0 where
@@ -116,7 +116,7 @@ pub record PassedCall (call : Call) : Type 0 where
   pub template : PassedPart (uses_template call.code) false call.template
   pub entry : PassedPart (uses_entry call.code) true call.entry
 
-pub call-sound : (call : Call) → call_fault call ≡ Absent → PassedCall call
+pub call-sound : (call : Call) → call_fault call ≡ Ok tt → PassedCall call
 unfolding call_fault used_fault
 call-sound call h =
     let template = uses_template call.code in
@@ -124,7 +124,7 @@ call-sound call h =
     let used-rest = first_absent (used_fault call) _ h in
     let used = unless-absent (leb out call.code && leb call.code cas) Unknown _ used-rest.0 in
     let faults = first_absent (part_fault call.template template false) (part_fault call.entry entry true) used.1 in
-    let rest = unless-absent (rest_blank call.template template && rest_blank call.entry entry) Misshapen Absent used-rest.1 in
+    let rest = unless-absent (rest_blank call.template template && rest_blank call.entry entry) Misshapen (Ok tt) used-rest.1 in
     let rests = (and-eq-true_iff (rest_blank call.template template) (rest_blank call.entry entry)).0 rest.0 in
     let code = between out call.code cas used.0 in
     record {
@@ -136,10 +136,10 @@ call-sound call h =
 
 -- ---- an out
 
-either : (fault : Fault) (t : Bool) → is_absent (first fault (unless t Misshapen Absent)) ≡ is_absent fault && t
-either Absent true = refl
-either Absent false = refl
-either (Present refusal) t = refl
+either : (fault : Verdict) (t : Bool) → is_absent (first fault (unless t Misshapen (Ok tt))) ≡ is_absent fault && t
+either (Ok _) true = refl
+either (Ok _) false = refl
+either (Err refusal) t = refl
 
 -- an out of a tuple is without fault exactly if the tuple is an entry that a space can hold
 pub out-entry : (process : ℕ) (tuple : Tuple) → is_absent (call_fault (record { process = process; code = out; template = blank_tuple; entry = tuple })) ≡ is_entry tuple

@@ -1,10 +1,10 @@
 -- The coding of offsets is one to one, and what `encode` and `decode` answer at each of their returns, over plain values. From the definitions and the laws of the integers that an `i32` holds.
 use mathlib.Core.Path.{◌≡◌, refl, sym, ap, ◌∙◌}
-use Prim.Native.Nat.{ℕ, zero, suc, ◌+◌, ◌-◌, ◌*◌, ◌/◌, ◌%◌, ◌≤◌, ◌<◌}
+use Prim.Native.Nat.{ℕ, zero, suc, ◌+◌, ◌-◌, ◌*◌, ◌/◌, ◌%◌, ◌≤◌}
 use native.Mathlib.Omega.{arith}
 use mathlib.Core.Bool.{true, false, false≢true}
 use lib.Dec.{T, eqb}
-use lib.IntN.{ℤ, pos, negsuc, neg_ℤ, nat_abs, ◌+ℤ◌, ◌-ℤ◌, ◌*ℤ◌, +ℤ_idl}
+use lib.IntN.{ℤ, pos, negsuc, neg_ℤ, nat_abs, ◌+ℤ◌, ◌*ℤ◌}
 use lib.Signed.{lt_z, le_z, non_neg}
 use mir.Syntax.{w32, w64}
 use mir.Val.{Fits, SFits, to_z, of_z}
@@ -14,8 +14,7 @@ use borrow.Table.Steps.{cases}
 use Rattle.tuple.specs.declared.refusal.Refusal.TheVariants.{Beyond}
 use Rattle.tuple.specs.declared.offset.Offset.{Offset}
 use Rattle.tuple.specs.declared.offset.Offset.TheVariants.{Bottom, Hundredths}
-use Rattle.tuple.specs.declared.offset.Coded.TheVariants.{Code, OutOfRange}
-use Rattle.tuple.specs.declared.offset.Decoded.TheVariants.{Means, NoOffset}
+use Rattle.std.specs.Prelude.{Err, Ok}
 use Rattle.tuple.specs.Bounds.{largest_offset, largest_code}
 use Rattle.tuple.specs.Offsets.{in_range, code_of, offset_of, coded_of, decoded_of}
 use Rattle.tuple.specs.Laws.{OneToOne, CodedRule}
@@ -99,12 +98,12 @@ read z = to_z w32 (of_z w32 z)
 
 -- ---- what `encode` answers
 
-pub coded-over : (z : ℤ) → lt_z (pos largest_offset) z ≡ true → OutOfRange Beyond ≡ coded_of (Hundredths z)
+pub coded-over : (z : ℤ) → lt_z (pos largest_offset) z ≡ true → Err Beyond ≡ coded_of (Hundredths z)
 unfolding coded_of
 coded-over (pos n) h = rw (lt-leb n largest_offset (ltb-true largest_offset n h))
 coded-over (negsuc k) h = absurd (false≢true h)
 
-pub coded-under : (z : ℤ) → lt_z z (neg_ℤ (pos largest_offset)) ≡ true → OutOfRange Beyond ≡ coded_of (Hundredths z)
+pub coded-under : (z : ℤ) → lt_z z (neg_ℤ (pos largest_offset)) ≡ true → Err Beyond ≡ coded_of (Hundredths z)
 unfolding coded_of
 coded-under (pos n) h = absurd (false≢true h)
 coded-under (negsuc k) h = rw (lt-leb (suc k) largest_offset (omega (arith, ltb-true (largest_offset - 1) k h)))
@@ -117,7 +116,7 @@ within-range (negsuc k) most least = le-leb (suc k) largest_offset (omega (arith
 pub record Codes (z y : ℤ) : Type 0 where
   pub fits : SFits w32 y
   pub cast : T (non_neg (read y)) × Fits w64 (nat_abs (read y))
-  pub code : Code (nat_abs (read y)) ≡ coded_of (Hundredths z)
+  pub code : Ok (nat_abs (read y)) ≡ coded_of (Hundredths z)
 
 codes : (z y : ℤ) → in_range (Hundredths z) ≡ true → y ≡ pos (code_of (Hundredths z)) → Codes z y
 unfolding coded_of
@@ -138,36 +137,3 @@ coded-up (negsuc k) h up = absurd (false≢true up)
 pub coded-down : (z : ℤ) → in_range (Hundredths z) ≡ true → le_z (pos 0) z ≡ false → Codes z (negsuc 1 *ℤ z)
 coded-down (pos n) h down = absurd (omega (arith, leb-false 0 n down))
 coded-down (negsuc k) h down = codes (negsuc k) (negsuc 1 *ℤ negsuc k) h (ap pos (omega arith))
-
--- ---- what `decode` answers
-
-pub decoded-past : (code : ℕ) → largest_code < code → NoOffset Beyond ≡ decoded_of code
-unfolding decoded_of
-decoded-past code h = rw (lt-leb code largest_code h)
-
-neg-fits : (n : ℕ) → n ≤ largest_offset → SFits w32 (neg_ℤ (pos n))
-neg-fits zero h = omega arith
-neg-fits (suc n) h = omega arith
-
-module _ (code : ℕ) (h : code ≤ largest_code) where
-  decoded-means : {o : Offset} → offset_of code ≡ o → Means o ≡ decoded_of code
-  unfolding decoded_of
-  decoded-means e = rw (le-leb code largest_code h) (ap Means (sym e))
-
-  pub decoded-bottom : code ≡ 0 → Means Bottom ≡ decoded_of code
-  decoded-bottom e = decoded-means (ap offset_of e)
-
-  half : to_z w32 (code / 2) ≡ pos (code / 2)
-  half = to_z_pos w32 (omega arith)
-
-  pub decoded-up : code % 2 ≡ 1 → Means (Hundredths (to_z w32 (code / 2))) ≡ decoded_of code
-  decoded-up odd = decoded-means (offset-odd code odd ∙ ap Hundredths (sym half))
-
-  half-neg : pos 0 -ℤ to_z w32 (code / 2) ≡ neg_ℤ (pos (code / 2))
-  half-neg = rw half (+ℤ_idl (neg_ℤ (pos (code / 2))))
-
-  pub half-neg-fits : SFits w32 (pos 0 -ℤ to_z w32 (code / 2))
-  half-neg-fits = rw half-neg (neg-fits (code / 2) (omega arith))
-
-  pub decoded-down : (code ≡ 0 → ⊥) → (code % 2 ≡ 1 → ⊥) → Means (Hundredths (read (pos 0 -ℤ to_z w32 (code / 2)))) ≡ decoded_of code
-  decoded-down some even = decoded-means (offset-even code some even ∙ ap Hundredths (sym (to_z-of_z half-neg-fits ∙ half-neg)))

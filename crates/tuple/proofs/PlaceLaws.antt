@@ -8,10 +8,10 @@ use mathlib.Core.List.{List, [], ◌∷◌}
 use lib.Bits.{bit_or, or_add_and, and_le_r}
 use lib.ListN.{length, take, drop, get_or, drop_of_length-le}
 use lib.Dec.{leb, ltb, eqb}
-use borrow.Author.Tests.{eqb-true, eqb-false, eq-eqb, ne_eqb, le-leb, lt-leb}
+use borrow.Author.Tests.{eqb-true, eqb-false, eq-eqb, ne_eqb, le-leb, lt-leb, leb-true, leb-false}
 use borrow.Table.Steps.{cases}
-use Rattle.tuple.specs.declared.fault.Fault.{Fault}
-use Rattle.tuple.specs.declared.fault.Fault.TheVariants.{Absent, Present}
+use Rattle.std.specs.Prelude.{Err, Ok}
+use Rattle.tuple.specs.Refusals.{Verdict}
 use Rattle.tuple.specs.declared.field.Field.{Field}
 use Rattle.tuple.specs.declared.field.Tuple.{Tuple}
 use Rattle.tuple.specs.Bounds.{places}
@@ -52,11 +52,11 @@ joined-zero field head e =
 -- ---- a field of an entry, by its kind and its state as one number
 
 module _ (field : Field) where
-  pub given-low : field.kind + field.state * 4_294_967_296 < word → is_absent (field_fault true field) ≡ false
+  given-low : field.kind + field.state * 4_294_967_296 < word → is_absent (field_fault true field) ≡ false
   unfolding field_fault known_head
   given-low h = rw (lt-leb word field.kind (omega arith))
 
-  pub given-high : process_set < field.kind + field.state * 4_294_967_296 → is_absent (field_fault true field) ≡ false
+  given-high : process_set < field.kind + field.state * 4_294_967_296 → is_absent (field_fault true field) ≡ false
   unfolding field_fault
   given-high h =
       cases (known_head field)
@@ -66,7 +66,7 @@ module _ (field : Field) where
       (λ unknown. rw unknown)
 
   -- between them the field is defined and of a known kind
-  pub given-within : word ≤ field.kind + field.state * 4_294_967_296 → field.kind + field.state * 4_294_967_296 ≤ process_set
+  given-within : word ≤ field.kind + field.state * 4_294_967_296 → field.kind + field.state * 4_294_967_296 ≤ process_set
       → is_absent (field_fault true field) ≡ leb field.value (largest_of field.kind)
   unfolding known_head
   given-within low high =
@@ -74,6 +74,15 @@ module _ (field : Field) where
       let known : known_head field ≡ true = rw (le-leb word field.kind (omega arith), le-leb field.kind process_set (omega arith), le-leb field.state formal (omega arith)) in
       ap is_absent (defined-fault true field known given)
       ∙ cases (leb field.value (largest_of field.kind)) (λ e. rw e) (λ e. rw e)
+
+  pub given : (head : ℕ) → head ≡ field.kind + field.state * 4_294_967_296
+      → (leb word head && leb head process_set && leb field.value (largest_of field.kind)) ≡ is_absent (field_fault true field)
+  given head e =
+      cases (leb word head)
+      (λ low. cases (leb head process_set)
+      (λ high. rw (low, high) (sym (given-within (omega (arith, e, leb-true word head low)) (omega (arith, e, leb-true head process_set high)))))
+      (λ high. rw (low, high) (sym (given-high (omega (arith, e, leb-false head process_set high))))))
+      (λ low. rw low (sym (given-low (omega (arith, e, leb-false word head low)))))
 
 -- ---- places of which the first are used, by a test of each
 
@@ -114,13 +123,13 @@ entry_from zero (field ∷ fields) = place_entry field false && entry_from zero 
 entry_from (suc count) (field ∷ fields) = place_entry field true && entry_from count fields
 
 -- a field of an entry without fault is defined, so that no part of its place is unused
-entry-field : (field : Field) (fields : List Field) (rest left : Bool) → is_absent (fields_fault true fields) && rest ≡ left → (fault : Fault) → field_fault true field ≡ fault
+entry-field : (field : Field) (fields : List Field) (rest left : Bool) → is_absent (fields_fault true fields) && rest ≡ left → (fault : Verdict) → field_fault true field ≡ fault
     → is_absent (fields_fault true (field ∷ fields)) && (place_blank field true && rest) ≡ place_entry field true && left
 unfolding fields_fault place_blank
-entry-field field fields rest left more Absent e =
+entry-field field fields rest left more (Ok _) e =
     let given : is_defined field ≡ true = cases (is_defined field) (λ d. d) (λ d. absurd (false≢true (sym ((field-sound true field e).shaped d)))) in
     rw (e, given) more
-entry-field field fields rest left more (Present refusal) e = rw e
+entry-field field fields rest left more (Err refusal) e = rw e
 
 entry-from : (count : ℕ) (fields : List Field) → is_absent (fields_fault true (take count fields)) && rest_from count fields ≡ entry_from count fields
 unfolding entry_from fields_fault rest_from place_blank

@@ -1,6 +1,6 @@
 -- A shape's test holds exactly for what the shape makes, and so for the tuples that have a meaning. From the tests of a field and of unused parts.
 use mathlib.Core.Path.{◌≡◌, refl, sym, ap, ◌∙◌}
-use mathlib.Core.Bool.{Bool, true, false, false≢true, and-eq-true_iff}
+use mathlib.Core.Bool.{Bool, true, false, false≢true, ◌&&◌, and-true, and-eq-true_iff}
 use mathlib.Core.List.{List, [], ◌∷◌}
 use mathlib.Core.Logic.{◌↔◌, inl, inr, ⊎_elim}
 use Prim.Native.Nat.{ℕ, ◌<◌}
@@ -45,6 +45,21 @@ shape-parts shape tuple h =
     let begun = (and-eq-true_iff _ (is count defined (field tuple 1))).0 two.0 in
     let front = (and-eq-true_iff (eqb tuple.count shape.count) (says word shape.word (field tuple 0))).0 begun.0 in
     record { counted = eqb-true _ _ front.0; named = front.1; second = begun.1; third = two.1; fourth = three.1; fifth = four.1 }
+
+-- a place is asked behind the test of those before it
+asked : (test : Bool) (place : Place) (f : Field) → and_fills test place f ≡ test && and_fills true place f
+asked test place f = cases (eqb place.kind 0) (λ none. rw none (sym (and-true test))) (λ some. rw some)
+
+pub shape-tests : (shape : Shape) (tuple : Tuple)
+    → eqb tuple.count shape.count && says word shape.word (field tuple 0) && is count defined (field tuple 1)
+    && and_fills true shape.third (field tuple 2) && and_fills true shape.fourth (field tuple 3) && and_fills true shape.fifth (field tuple 4)
+    ≡ has_shape shape tuple
+unfolding has_shape
+shape-tests shape tuple =
+    let begun = eqb tuple.count shape.count && says word shape.word (field tuple 0) && is count defined (field tuple 1) in
+    sym (asked (and_fills (and_fills begun shape.third (field tuple 2)) shape.fourth (field tuple 3)) shape.fifth (field tuple 4)
+    ∙ ap (λ (t : Bool). t && and_fills true shape.fifth (field tuple 4)) (asked (and_fills begun shape.third (field tuple 2)) shape.fourth (field tuple 3)
+    ∙ ap (λ (t : Bool). t && and_fills true shape.fourth (field tuple 3)) (asked begun shape.third (field tuple 2))))
 
 zero_field : {f : Field} → ZeroField f → f ≡ blank_field
 zero_field zero = λ j. record { kind = zero.kind j; state = zero.state j; value = zero.value j }

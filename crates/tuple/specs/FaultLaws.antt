@@ -1,8 +1,7 @@
 -- Document 01, "Fields and tuples", "Bytes" and "What is returned, and for what", rows 3 to 5, with the bounds of document 02, 2.8 and 2.10: when a call that
 -- is handed in has no fault, and which of its faults comes first, in the documents' words and numbers. `FaultRules` is the claim, and `EntryRules` of the
 -- tuples that a space holds.
-use Rattle.std.specs.Prelude.{◌≡◌, Bool, true, false, ◌↔◌, ℕ, ◌≤◌, ◌<◌, length}
-use Rattle.tuple.specs.declared.fault.Fault.TheVariants.{Absent, Present}
+use Rattle.std.specs.Prelude.{◌≡◌, Bool, true, false, ◌↔◌, ℕ, ◌≤◌, ◌<◌, length, Err, Ok}
 use Rattle.tuple.specs.declared.field.Field.{Field}
 use Rattle.tuple.specs.declared.field.Tuple.{Tuple}
 use Rattle.tuple.specs.declared.field.Call.{Call}
@@ -106,8 +105,8 @@ pub data CallRefused (call : Call) : ℕ → Type 0 where
 
 -- the claim, over every call whose tuples have six places: no fault, and each refusal, exactly when
 pub record FaultRule (call : Call) : Type 0 where
-  pub none : (call_fault call ≡ Absent) ↔ SoundCall call
-  pub some : (why : Refusal) → (call_fault call ≡ Present why) ↔ CallRefused call (number_of why)
+  pub none : (call_fault call ≡ Ok tt) ↔ SoundCall call
+  pub some : (why : Refusal) → (call_fault call ≡ Err why) ↔ CallRefused call (number_of why)
 
 abbrev pub FaultRules : Type 0
 FaultRules = (call : Call) → length call.template.fields ≡ 6 → length call.entry.fields ≡ 6 → FaultRule call

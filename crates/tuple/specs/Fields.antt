@@ -1,4 +1,4 @@
--- Document 01, "Fields and tuples" and "Calls": kinds, states, words and codes, each under its name, and what is blank.
+-- Document 01, "Fields and tuples" and "Calls": kinds, states, words and codes, each under its name, what is blank, and the calls that are made.
 use Rattle.std.specs.Prelude.{ℕ, cond, replicate, eqb}
 use Rattle.tuple.specs.declared.field.Field.{Field}
 use Rattle.tuple.specs.declared.field.Tuple.{Tuple}
@@ -78,3 +78,14 @@ blank_tuple = record { count = 0; fields = replicate places blank_field }
 
 abbrev pub blank_call : Call
 blank_call = record { process = 0; code = 0; template = blank_tuple; entry = blank_tuple }
+
+-- ---- the calls of a process: an out and an rdp leave one part blank
+
+abbrev pub out_of : ℕ → Tuple → Call
+out_of process entry = record { process = process; code = out; template = blank_tuple; entry = entry }
+
+abbrev pub rdp_of : ℕ → Tuple → Call
+rdp_of process template = record { process = process; code = rdp; template = template; entry = blank_tuple }
+
+abbrev pub cas_of : ℕ → Tuple → Tuple → Call
+cas_of process template entry = record { process = process; code = cas; template = template; entry = entry }

@@ -1,13 +1,10 @@
 -- The laws of refusals, blanks, offsets, matching and equal calls, as claims over the definitions.
-use Rattle.std.specs.Prelude.{◌≡◌, true, false, List, [], ◌∷◌, ◌↔◌, ℕ, ◌+◌, ◌*◌, ◌≤◌, ◌<◌, length, get_or, ℤ, pos, negsuc, neg_ℤ}
-use Rattle.tuple.specs.declared.offset.Coded.TheVariants.{Code, OutOfRange}
-use Rattle.tuple.specs.declared.offset.Decoded.TheVariants.{Means, NoOffset}
+use Rattle.std.specs.Prelude.{◌≡◌, true, false, List, [], ◌∷◌, ◌↔◌, ℕ, ◌+◌, ◌*◌, ◌≤◌, ◌<◌, length, get_or, ℤ, pos, negsuc, neg_ℤ, Err, None, Ok, Some}
 use Rattle.tuple.specs.declared.offset.Offset.{Offset}
 use Rattle.tuple.specs.declared.offset.Offset.TheVariants.{Bottom, Hundredths}
 use Rattle.tuple.specs.declared.field.Field.{Field}
 use Rattle.tuple.specs.declared.field.Tuple.{Tuple}
 use Rattle.tuple.specs.declared.field.Call.{Call}
-use Rattle.tuple.specs.declared.matching.Found.TheVariants.{At, Nowhere}
 use Rattle.tuple.specs.Equality.{same_call}
 use Rattle.tuple.specs.Fields.{blank_field, blank_tuple, blank_call}
 use Rattle.tuple.specs.Matching.{matches, oldest_of}
@@ -52,13 +49,13 @@ pub record OneToOne : Type 0 where
 -- what coding an offset and decoding a number answer: 0 is bottom, 1 + 2z is z from 0 to 100,000, 2z is -z from 1 to 100,000 (`negsuc k` is -(k + 1)); and
 -- 3 beyond
 pub record CodedRule : Type 0 where
-  pub mark : coded_of Bottom ≡ Code 0
-  pub from_zero : (z : ℕ) → z ≤ 100_000 → coded_of (Hundredths (pos z)) ≡ Code (1 + 2 * z)
-  pub below-zero : (k : ℕ) → k + 1 ≤ 100_000 → coded_of (Hundredths (negsuc k)) ≡ Code (2 * (k + 1))
-  pub too-high : (z : ℕ) → 100_000 < z → coded_of (Hundredths (pos z)) ≡ OutOfRange (refusal 3)
-  pub too-low : (k : ℕ) → 100_000 < k + 1 → coded_of (Hundredths (negsuc k)) ≡ OutOfRange (refusal 3)
-  pub means : (code : ℕ) → code ≤ 200_001 → (o : Offset) × (decoded_of code ≡ Means o) × (coded_of o ≡ Code code)
-  pub meaningless : (code : ℕ) → 200_001 < code → decoded_of code ≡ NoOffset (refusal 3)
+  pub mark : coded_of Bottom ≡ Ok 0
+  pub from_zero : (z : ℕ) → z ≤ 100_000 → coded_of (Hundredths (pos z)) ≡ Ok (1 + 2 * z)
+  pub below-zero : (k : ℕ) → k + 1 ≤ 100_000 → coded_of (Hundredths (negsuc k)) ≡ Ok (2 * (k + 1))
+  pub too-high : (z : ℕ) → 100_000 < z → coded_of (Hundredths (pos z)) ≡ Err (refusal 3)
+  pub too-low : (k : ℕ) → 100_000 < k + 1 → coded_of (Hundredths (negsuc k)) ≡ Err (refusal 3)
+  pub means : (code : ℕ) → code ≤ 200_001 → (o : Offset) × (decoded_of code ≡ Ok o) × (coded_of o ≡ Ok code)
+  pub meaningless : (code : ℕ) → 200_001 < code → decoded_of code ≡ Err (refusal 3)
 
 -- ---- matching, in 01's words
 
@@ -80,10 +77,10 @@ MatchRule =
 -- the oldest tuple that matches stands at i when it matches and none before it does; there is none when none does
 pub record OldestRule : Type 0 where
   pub at : (tuples : List Tuple) (template : Tuple) (i : ℕ)
-      → (oldest_of tuples template ≡ At i)
+      → (oldest_of tuples template ≡ Some i)
       ↔ ((i < length tuples) × (matches template (get_or tuples i blank_tuple) ≡ true) × ((j : ℕ) → j < i → matches template (get_or tuples j blank_tuple) ≡ false))
   pub nowhere : (tuples : List Tuple) (template : Tuple)
-      → (oldest_of tuples template ≡ Nowhere) ↔ ((j : ℕ) → j < length tuples → matches template (get_or tuples j blank_tuple) ≡ false)
+      → (oldest_of tuples template ≡ None) ↔ ((j : ℕ) → j < length tuples → matches template (get_or tuples j blank_tuple) ≡ false)
 
 -- ---- equal calls
 

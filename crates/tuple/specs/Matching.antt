@@ -1,10 +1,7 @@
 -- Document 01, "Fields and tuples" and "Calls": when an entry and a template match, and the oldest tuple that does.
-use Rattle.std.specs.Prelude.{ℕ, ◌+◌, Bool, true, false, cond, not, ◌&&◌, ◌||◌, List, [], ◌∷◌, take, get_or, eqb}
+use Rattle.std.specs.Prelude.{ℕ, ◌+◌, Bool, true, false, cond, not, ◌&&◌, ◌||◌, List, [], ◌∷◌, take, get_or, eqb, None, Option, Some}
 use Rattle.tuple.specs.declared.field.Field.{Field}
 use Rattle.tuple.specs.declared.field.Tuple.{Tuple}
-use Rattle.tuple.specs.declared.matching.Found.{Found}
-use Rattle.tuple.specs.declared.matching.Found.TheVariants.{At, Nowhere}
-use Rattle.tuple.specs.declared.matching.Matched.{Matched}
 use Rattle.tuple.specs.Faults.{is_defined}
 use Rattle.tuple.specs.Fields.{blank_tuple}
 
@@ -25,19 +22,19 @@ matches template entry =
     eqb entry.count template.count && fields_match (take template.count template.fields) (take template.count entry.fields)
 
 -- the first of the tuples that matches; the first of them stands at the place i
-unfoldable pub oldest_from : ℕ → List Tuple → Tuple → Found
-oldest_from i [] template = Nowhere
-oldest_from i (tuple ∷ tuples) template = cond (matches template tuple) (At i) (oldest_from (i + 1) tuples template)
+unfoldable pub oldest_from : ℕ → List Tuple → Tuple → Option ℕ
+oldest_from i [] template = None
+oldest_from i (tuple ∷ tuples) template = cond (matches template tuple) (Some i) (oldest_from (i + 1) tuples template)
 
 -- the oldest of the tuples, oldest first, that matches
-unfoldable pub oldest_of : List Tuple → Tuple → Found
+unfoldable pub oldest_of : List Tuple → Tuple → Option ℕ
 oldest_of tuples template = oldest_from 0 tuples template
 
--- the tuple at a place found, blank where there is none
-abbrev pub found_tuple : List Tuple → Found → Tuple
-found_tuple tuples (At i) = get_or tuples i blank_tuple
-found_tuple tuples Nowhere = blank_tuple
+-- the place found and the tuple there
+abbrev pub found_in : List Tuple → Option ℕ → Option (ℕ × Tuple)
+found_in tuples (Some i) = Some (i, get_or tuples i blank_tuple)
+found_in tuples None = None
 
 -- where the oldest that matches stands, and that tuple
-abbrev pub matched_of : List Tuple → Tuple → Matched
-matched_of tuples template = record { found = oldest_of tuples template; tuple = found_tuple tuples (oldest_of tuples template) }
+abbrev pub matched_of : List Tuple → Tuple → Option (ℕ × Tuple)
+matched_of tuples template = found_in tuples (oldest_of tuples template)

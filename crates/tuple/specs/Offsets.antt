@@ -1,11 +1,8 @@
 -- Document 01, "Bytes" and "Fields and tuples": the number that stands for an offset, over the whole numbers.
-use Rattle.std.specs.Prelude.{ℕ, ◌+◌, ◌*◌, ◌/◌, ◌%◌, Bool, true, cond, leb, eqb, pos, negsuc, neg_ℤ, nat_abs}
+use Rattle.std.specs.Prelude.{ℕ, ◌+◌, ◌*◌, ◌/◌, ◌%◌, Bool, true, cond, leb, eqb, pos, negsuc, neg_ℤ, nat_abs, Err, Ok, Result}
 use Rattle.tuple.specs.declared.offset.Offset.{Offset}
 use Rattle.tuple.specs.declared.offset.Offset.TheVariants.{Bottom, Hundredths}
-use Rattle.tuple.specs.declared.offset.Coded.{Coded}
-use Rattle.tuple.specs.declared.offset.Coded.TheVariants.{Code, OutOfRange}
-use Rattle.tuple.specs.declared.offset.Decoded.{Decoded}
-use Rattle.tuple.specs.declared.offset.Decoded.TheVariants.{Means, NoOffset}
+use Rattle.tuple.specs.declared.refusal.Refusal.{Refusal}
 use Rattle.tuple.specs.Bounds.{largest_offset, largest_code}
 use Rattle.tuple.specs.Refusals.{refusal}
 
@@ -30,9 +27,9 @@ offset_of code =
     cond (eqb code bottom) Bottom (cond (eqb (code % 2) 1) (Hundredths (pos (code / 2))) (Hundredths (neg_ℤ (pos (code / 2)))))
 
 -- what coding an offset answers, on every offset
-unfoldable pub coded_of : Offset → Coded
-coded_of offset = cond (in_range offset) (Code (code_of offset)) (OutOfRange (refusal 3))
+unfoldable pub coded_of : Offset → Result ℕ Refusal
+coded_of offset = cond (in_range offset) (Ok (code_of offset)) (Err (refusal 3))
 
 -- what decoding a number answers, on every number
-unfoldable pub decoded_of : ℕ → Decoded
-decoded_of code = cond (leb code largest_code) (Means (offset_of code)) (NoOffset (refusal 3))
+unfoldable pub decoded_of : ℕ → Result Offset Refusal
+decoded_of code = cond (leb code largest_code) (Ok (offset_of code)) (Err (refusal 3))

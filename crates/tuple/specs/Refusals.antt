@@ -1,5 +1,5 @@
 -- Document 01, "What is returned, and for what", and document 02, 2.3, 2.4 and 2.7: the number of each refusal, and the refusal of each number.
-use Rattle.std.specs.Prelude.{ℕ, cond, eqb}
+use Rattle.std.specs.Prelude.{ℕ, cond, Result, eqb}
 use Rattle.tuple.specs.declared.refusal.Refusal.{Refusal}
 use Rattle.tuple.specs.declared.refusal.Refusal.TheVariants.{Unsound, Cut, Beyond, Unknown, Misshapen, Stranger, Denied, Full, LongScript, NoRoom, Unfit, SecondProposal, Unborne, Unreached, Unscripted}
 
@@ -38,3 +38,7 @@ refusal number =
     (cond (eqb number 13) Unborne
     (cond (eqb number 14) Unreached
     Unscripted)))))))))))))
+
+-- that a test passes, or the refusal
+abbrev pub Verdict : Type 0
+Verdict = Result (Unit {0}) Refusal

@@ -7,32 +7,23 @@ use crate::bounds::FIELDS;
 use crate::field::{
     CAS, Call, DEFINED, FORMAL, Field, OUT, PROCESS_SET, RDP, Tuple, WORD, largest,
 };
-use crate::refusal::Refusal;
-
-#[derive(Clone, Copy)]
-pub enum Fault {
-    Absent,
-    Present(Refusal),
-}
+use crate::refusal::{Refusal, Verdict};
 
 impl Call {
     // The fault of a call.
-    pub fn fault(self) -> Fault
+    #[tactic(auto, unfolding(crate::specs::Faults::call_fault))]
+    pub fn fault(self) -> Verdict
         ensures { result ≡ call_fault self }
     {
         let code = self.code;
-        let template = self.template;
-        let entry = self.entry;
-        if let Fault::Present(refusal) = used_fault(self) {
-            return Fault::Present(refusal);
+        used_fault(self)?;
+        if rest_blank(self.template, uses_template(code))
+            && rest_blank(self.entry, uses_entry(code))
+        {
+            Ok(())
+        } else {
+            Err(Refusal::Misshapen)
         }
-        if !rest_blank(template, uses_template(code)) {
-            return Fault::Present(Refusal::Misshapen);
-        }
-        if !rest_blank(entry, uses_entry(code)) {
-            return Fault::Present(Refusal::Misshapen);
-        }
-        Fault::Absent
     }
 }
 
@@ -42,18 +33,13 @@ impl Tuple {
         ensures { result ≡ is_entry self }
     {
         let count = self.count;
-        let first = self.fields[0];
-        let second = self.fields[1];
-        let third = self.fields[2];
-        let fourth = self.fields[3];
-        let fifth = self.fields[4];
-        let sixth = self.fields[5];
-        let one = and_place(is_count(count), first, 0 < count);
-        let two = and_place(one, second, 1 < count);
-        let three = and_place(two, third, 2 < count);
-        let four = and_place(three, fourth, 3 < count);
-        let five = and_place(four, fifth, 4 < count);
-        and_place(five, sixth, 5 < count)
+        is_count(count)
+            && is_place(self.fields[0], 0 < count)
+            && is_place(self.fields[1], 1 < count)
+            && is_place(self.fields[2], 2 < count)
+            && is_place(self.fields[3], 3 < count)
+            && is_place(self.fields[4], 4 < count)
+            && is_place(self.fields[5], 5 < count)
     }
 
     // Whether all of a tuple is zero.
@@ -61,111 +47,87 @@ impl Tuple {
         ensures { result ≡ rest_blank self false }
     {
         let count = self.count as u64;
-        let first = self.fields[0];
-        let second = self.fields[1];
-        let third = self.fields[2];
-        let fourth = self.fields[3];
-        let fifth = self.fields[4];
-        let sixth = self.fields[5];
-        let front = joined(first) | joined(second) | joined(third);
-        let back = joined(fourth) | joined(fifth) | joined(sixth);
+        let front = joined(self.fields[0]) | joined(self.fields[1]) | joined(self.fields[2]);
+        let back = joined(self.fields[3]) | joined(self.fields[4]) | joined(self.fields[5]);
         count | front | back == 0
     }
 }
 
 // The fault of the parts that a call uses.
-fn used_fault(call: Call) -> Fault
+#[tactic(auto, unfolding(crate::specs::Faults::used_fault))]
+fn used_fault(call: Call) -> Verdict
     ensures { result ≡ used_fault call }
 {
     let code = call.code;
-    let template = call.template;
-    let entry = call.entry;
-    if code < OUT {
-        return Fault::Present(Refusal::Unknown);
+    if code < OUT || CAS < code {
+        return Err(Refusal::Unknown);
     }
-    if CAS < code {
-        return Fault::Present(Refusal::Unknown);
-    }
-    if let Fault::Present(refusal) = part_fault(template, uses_template(code), false) {
-        return Fault::Present(refusal);
-    }
-    part_fault(entry, uses_entry(code), true)
+    part_fault(call.template, uses_template(code), false)?;
+    part_fault(call.entry, uses_entry(code), true)
 }
 
 // Whether a call of this code has a template: rdp, inp and cas do.
+#[tactic(auto, unfolding(crate::specs::Faults::uses_template))]
 pub fn uses_template(code: u32) -> bool
     ensures { result ≡ uses_template code }
 {
-    if code < RDP { false } else { code <= CAS }
+    RDP <= code && code <= CAS
 }
 
 // Whether a call of this code has an entry: out and cas do.
+#[tactic(auto, unfolding(crate::specs::Faults::uses_entry))]
 pub fn uses_entry(code: u32) -> bool
     ensures { result ≡ uses_entry code }
 {
-    if code == OUT { true } else { code == CAS }
+    code == OUT || code == CAS
 }
 
 // The fault of a template or an entry, if the call uses it.
-fn part_fault(tuple: Tuple, used: bool, entry: bool) -> Fault
+#[tactic(auto, unfolding(crate::specs::Faults::part_fault))]
+fn part_fault(tuple: Tuple, used: bool, entry: bool) -> Verdict
     ensures { result ≡ part_fault tuple used entry }
 {
     if used {
         tuple_fault(tuple, entry)
     } else {
-        Fault::Absent
+        Ok(())
     }
 }
 
 // The fault of a tuple: its count's, or the first of its fields'.
-fn tuple_fault(tuple: Tuple, entry: bool) -> Fault
+#[tactic(auto, unfolding(crate::specs::Faults::tuple_fault, crate::specs::Faults::fields_fault))]
+fn tuple_fault(tuple: Tuple, entry: bool) -> Verdict
     ensures { result ≡ tuple_fault entry tuple }
 {
     let count = tuple.count;
-    if count < 1 {
-        return Fault::Present(Refusal::Misshapen);
+    if !is_count(count) {
+        return Err(Refusal::Misshapen);
     }
-    if FIELDS < count {
-        return Fault::Present(Refusal::Misshapen);
+    for field in &tuple.fields[..count] {
+        field_fault(*field, entry)?;
     }
-    let mut i = 0;
-    while i < count {
-        let field = tuple.fields[i];
-        if let Fault::Present(refusal) = field_fault(field, entry) {
-            return Fault::Present(refusal);
-        }
-        i += 1;
-    }
-    Fault::Absent
+    Ok(())
 }
 
 // The fault of a field: its head's, then its value's.
-fn field_fault(field: Field, entry: bool) -> Fault
+#[tactic(auto, unfolding(crate::specs::Faults::field_fault, crate::specs::Faults::known_head))]
+fn field_fault(field: Field, entry: bool) -> Verdict
     ensures { result ≡ field_fault entry field }
 {
-    if field.kind < WORD {
-        return Fault::Present(Refusal::Unknown);
+    if field.kind < WORD || PROCESS_SET < field.kind || FORMAL < field.state {
+        return Err(Refusal::Unknown);
     }
-    if PROCESS_SET < field.kind {
-        return Fault::Present(Refusal::Unknown);
+    if entry && field.state != DEFINED {
+        return Err(Refusal::Misshapen);
     }
-    if FORMAL < field.state {
-        return Fault::Present(Refusal::Unknown);
+    if field.state == DEFINED && largest(field.kind) < field.value {
+        return Err(Refusal::Beyond);
     }
-    if field.state != DEFINED {
-        return if entry {
-            Fault::Present(Refusal::Misshapen)
-        } else {
-            Fault::Absent
-        };
-    }
-    if largest(field.kind) < field.value {
-        return Fault::Present(Refusal::Beyond);
-    }
-    Fault::Absent
+    Ok(())
 }
 
 // Whether the unused parts of a tuple are zero: all of it, if it is not used.
+#[tactic(auto, unfolding(crate::specs::Faults::rest_blank))]
 fn rest_blank(tuple: Tuple, used: bool) -> bool
     ensures { result ≡ rest_blank tuple used }
 {
@@ -180,28 +142,21 @@ fn rest_blank(tuple: Tuple, used: bool) -> bool
 fn places_blank(tuple: Tuple) -> bool
     ensures { result ≡ rest_from tuple.count tuple.fields }
 {
-    let count = tuple.count;
-    let mut i = 0;
-    while i < FIELDS {
-        let field = tuple.fields[i];
-        if !place_blank(field, i < count) {
+    for (i, field) in tuple.fields.iter().enumerate() {
+        if !place_blank(*field, i < tuple.count) {
             return false;
         }
-        i += 1;
     }
     true
 }
 
 // Whether the unused parts of a place are zero: all of it, if it is not used.
+#[tactic(auto, unfolding(crate::specs::Faults::place_blank))]
 fn place_blank(field: Field, used: bool) -> bool
     ensures { result ≡ place_blank field used }
 {
     if used {
-        if field.state == DEFINED {
-            true
-        } else {
-            field.value == 0
-        }
+        field.state == DEFINED || field.value == 0
     } else {
         is_blank(field)
     }
@@ -218,21 +173,17 @@ fn is_blank(field: Field) -> bool
 fn is_count(count: usize) -> bool
     ensures { result ≡ (leb 1 count && leb count places) }
 {
-    if 1 <= count { count <= FIELDS } else { false }
+    1 <= count && count <= FIELDS
 }
 
-// Whether the places before passed, and this one too: a field of an entry if it is used, and else nothing.
-fn and_place(passed: bool, field: Field, used: bool) -> bool
-    ensures { result ≡ (passed && cond used (is_absent (field_fault true field)) (is_blank field)) }
+// Whether a place of an entry is as it must be: a field without fault if it is used, and else blank.
+fn is_place(field: Field, used: bool) -> bool
+    ensures { result ≡ cond used (is_absent (field_fault true field)) (is_blank field) }
 {
-    if passed {
-        if used {
-            is_given(field)
-        } else {
-            is_blank(field)
-        }
+    if used {
+        is_given(field)
     } else {
-        false
+        is_blank(field)
     }
 }
 
@@ -241,13 +192,9 @@ fn is_given(field: Field) -> bool
     ensures { result ≡ is_absent (field_fault true field) }
 {
     let number = head(field);
-    if number < WORD as u64 {
-        return false;
-    }
-    if (PROCESS_SET as u64) < number {
-        return false;
-    }
-    field.value <= largest(field.kind)
+    u64::from(WORD) <= number
+        && number <= u64::from(PROCESS_SET)
+        && field.value <= largest(field.kind)
 }
 
 // ---- the numbers of a field as one
@@ -256,7 +203,7 @@ fn is_given(field: Field) -> bool
 fn head(field: Field) -> u64
     ensures { result ≡ field.kind + field.state * 4_294_967_296 }
 {
-    field.kind as u64 + field.state as u64 * 4_294_967_296
+    u64::from(field.kind) + u64::from(field.state) * 4_294_967_296
 }
 
 // All three: 0 if each is.

@@ -1,6 +1,6 @@
 // Fields, tuples and calls: plain numbers, so that anything can be handed in and get its refusal.
 ghost use Rattle.std.specs.Prelude.{◌≡◌};
-ghost use Rattle.tuple.specs.Fields.{largest_of, blank_field, blank_tuple, blank_call};
+ghost use Rattle.tuple.specs.Fields.{largest_of, blank_field, blank_tuple, blank_call, out_of, rdp_of, cas_of};
 
 use crate::bounds::{FIELDS, LARGEST_CODE, LARGEST_COUNT, LARGEST_SET, LARGEST_WORD};
 
@@ -40,7 +40,7 @@ pub const CAS: u32 = 4;
 
 // A field: its kind, its state and its value. An offset's value is its code.
 #[repr(C)]
-#[derive(Clone, Copy)]
+#[derive(Clone, Copy, PartialEq, Eq)]
 pub struct Field {
     pub kind: u32,
     pub state: u32,
@@ -49,7 +49,7 @@ pub struct Field {
 
 // A tuple: how many fields it has, and six places for them.
 #[repr(C)]
-#[derive(Clone, Copy)]
+#[derive(Clone, Copy, PartialEq, Eq)]
 pub struct Tuple {
     pub count: usize,
     pub fields: [Field; FIELDS],
@@ -57,7 +57,7 @@ pub struct Tuple {
 
 // A call: the process (01's seat) that calls, the call's code, and its template and entry.
 #[repr(C)]
-#[derive(Clone, Copy)]
+#[derive(Clone, Copy, PartialEq, Eq)]
 pub struct Call {
     pub process: u32,
     pub code: u32,
@@ -102,9 +102,46 @@ impl Call {
             entry: Tuple::blank(),
         }
     }
+
+    // An out of an entry.
+    pub fn out(process: u32, entry: Tuple) -> Self
+        ensures { result ≡ out_of process entry }
+    {
+        Call {
+            process,
+            code: OUT,
+            template: Tuple::blank(),
+            entry,
+        }
+    }
+
+    // An rdp by a template.
+    pub fn rdp(process: u32, template: Tuple) -> Self
+        ensures { result ≡ rdp_of process template }
+    {
+        Call {
+            process,
+            code: RDP,
+            template,
+            entry: Tuple::blank(),
+        }
+    }
+
+    // A cas: its entry goes in if nothing matches its template.
+    pub fn cas(process: u32, template: Tuple, entry: Tuple) -> Self
+        ensures { result ≡ cas_of process template entry }
+    {
+        Call {
+            process,
+            code: CAS,
+            template,
+            entry,
+        }
+    }
 }
 
 // The largest value of a kind; 0 for what is no kind.
+#[tactic(auto, unfolding(crate::specs::Fields::largest_of))]
 pub fn largest(kind: u32) -> u64
     ensures { result ≡ largest_of kind }
 {

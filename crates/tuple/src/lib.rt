@@ -17,7 +17,7 @@ pub use bounds::{
     LARGEST_WORD, TUPLES,
 };
 pub use equality::same_call;
-pub use fault::{Fault, uses_entry, uses_template};
+pub use fault::{uses_entry, uses_template};
 pub use field::{
     ANNOUNCING, CAS, COUNT, Call, DECISION, DEFINED, FORMAL, Field, INP, LISTING, OFFSET, OUT,
     PROCESS_SET, PROPOSE, RDP, Tuple, WILDCARD, WORD, largest,
@@ -26,8 +26,8 @@ pub use forms::{
     ANNOUNCEMENT, ANNOUNCEMENT_TEMPLATE, DECISION_ENTRY, DECISION_TEMPLATE, LIST_TEMPLATE,
     LIST_TUPLE, PROPOSAL, PROPOSAL_TEMPLATE, WEAK_ENTRY, WEAK_TEMPLATE,
 };
-pub use matching::{Found, Matched, field_matches, least, oldest};
-pub use offset::{BOTTOM, Coded, Decoded, Offset};
-pub use refusal::Refusal;
+pub use matching::{field_matches, least, oldest};
+pub use offset::{BOTTOM, Offset};
+pub use refusal::{Refusal, Verdict};
 pub use reply::{Outcome, Reply};
-pub use shape::{Shape, all_five, all_four, all_three, has_shape, make};
+pub use shape::{Shape, has_shape, make};

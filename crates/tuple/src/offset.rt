@@ -15,59 +15,43 @@ pub enum Offset {
     Hundredths(i32),
 }
 
-// What coding an offset answers.
-#[derive(Clone, Copy)]
-pub enum Coded {
-    Code(u64),
-    OutOfRange(Refusal),
-}
-
-// What decoding a number answers.
-#[derive(Clone, Copy)]
-pub enum Decoded {
-    Means(Offset),
-    NoOffset(Refusal),
-}
-
 impl Offset {
     // The number that stands for an offset: 0 for bottom, 1 + 2z for z from zero up, -2z for z below zero.
-    pub fn encode(self) -> Coded
+    #[tactic(auto, unfolding(crate::specs::Offsets::coded_of))]
+    pub fn encode(self) -> Result<u64, Refusal>
         ensures { result ≡ coded_of self }
     {
         match self {
-            Offset::Bottom => Coded::Code(BOTTOM),
+            Offset::Bottom => Ok(BOTTOM),
             Offset::Hundredths(z) => {
-                if LARGEST_OFFSET < z {
-                    return Coded::OutOfRange(Refusal::Beyond);
-                }
-                if z < -LARGEST_OFFSET {
-                    return Coded::OutOfRange(Refusal::Beyond);
+                if z < -LARGEST_OFFSET || LARGEST_OFFSET < z {
+                    return Err(Refusal::Beyond);
                 }
                 if 0 <= z {
-                    Coded::Code((1 + 2 * z) as u64)
+                    Ok((1 + 2 * z) as u64)
                 } else {
-                    Coded::Code((-2 * z) as u64)
+                    Ok((-2 * z) as u64)
                 }
             }
         }
     }
 
     // The offset that a number stands for.
-    pub fn decode(code: u64) -> Decoded
+    #[tactic(auto, unfolding(crate::specs::Offsets::decoded_of))]
+    pub fn decode(code: u64) -> Result<Offset, Refusal>
         ensures { result ≡ decoded_of code }
     {
         if LARGEST_CODE < code {
-            return Decoded::NoOffset(Refusal::Beyond);
+            return Err(Refusal::Beyond);
         }
         if code == BOTTOM {
-            return Decoded::Means(Offset::Bottom);
+            return Ok(Offset::Bottom);
         }
         let half = (code / 2) as i32;
-        let negative = -half;
         if code % 2 == 1 {
-            Decoded::Means(Offset::Hundredths(half))
+            Ok(Offset::Hundredths(half))
         } else {
-            Decoded::Means(Offset::Hundredths(negative))
+            Ok(Offset::Hundredths(-half))
         }
     }
 }

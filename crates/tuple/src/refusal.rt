@@ -38,6 +38,9 @@ pub enum Refusal {
     Unscripted,
 }
 
+// Whether a test passes, or its refusal.
+pub type Verdict = Result<(), Refusal>;
+
 impl Refusal {
     // The number of a refusal.
     pub fn number(self) -> u32

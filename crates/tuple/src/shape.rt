@@ -1,5 +1,5 @@
 // Shapes of tuples: whether a tuple has one, and the tuple that is made of one and its values.
-ghost use Rattle.std.specs.Prelude.{◌≡◌, ◌&&◌};
+ghost use Rattle.std.specs.Prelude.{◌≡◌, true};
 ghost use Rattle.tuple.specs.Shapes.{is as is·, says as says·, is_undefined, fills as fills·, and_fills, has_shape, placed, made};
 
 use crate::field::{COUNT, DEFINED, FORMAL, Field, Tuple, WILDCARD, WORD};
@@ -25,32 +25,23 @@ pub struct Shape {
 }
 
 // Whether a tuple has this shape.
+#[tactic(auto, unfolding(crate::specs::Shapes::has_shape))]
 pub fn has_shape(tuple: Tuple, shape: Shape) -> bool
     ensures { result ≡ has_shape shape tuple }
 {
-    let first = tuple.fields[0];
-    let second = tuple.fields[1];
-    let third = tuple.fields[2];
-    let fourth = tuple.fields[3];
-    let fifth = tuple.fields[4];
-    let begun = all_three(
-        tuple.count == shape.count,
-        says(first, WORD, shape.word),
-        is(second, COUNT, DEFINED),
-    );
-    let three = and_fills(begun, shape.third, third);
-    let four = and_fills(three, shape.fourth, fourth);
-    and_fills(four, shape.fifth, fifth)
+    tuple.count == shape.count
+        && says(tuple.fields[0], WORD, shape.word)
+        && is(tuple.fields[1], COUNT, DEFINED)
+        && asks(shape.third, tuple.fields[2])
+        && asks(shape.fourth, tuple.fields[3])
+        && asks(shape.fifth, tuple.fields[4])
 }
 
-// Whether a test holds and, if there is such a place, its field is as the place asks.
-fn and_fills(test: bool, place: Place, field: Field) -> bool
-    ensures { result ≡ and_fills test place field }
+// Whether there is no such place, or its field is as the place asks.
+fn asks(place: Place, field: Field) -> bool
+    ensures { result ≡ and_fills true place field }
 {
-    if place.kind == 0 {
-        return test;
-    }
-    if test { fills(place, field) } else { false }
+    place.kind == 0 || fills(place, field)
 }
 
 fn fills(place: Place, field: Field) -> bool
@@ -67,11 +58,7 @@ fn fills(place: Place, field: Field) -> bool
 fn is_undefined(field: Field, kind: u32) -> bool
     ensures { result ≡ is_undefined kind field }
 {
-    if is(field, kind, WILDCARD) {
-        true
-    } else {
-        is(field, kind, FORMAL)
-    }
+    is(field, kind, WILDCARD) || is(field, kind, FORMAL)
 }
 
 // The tuple of a shape whose second to fifth field have these values. A value is passed over where the shape has no place, or the place no value.
@@ -103,64 +90,24 @@ pub fn make(shape: Shape, second: u64, third: u64, fourth: u64, fifth: u64) -> T
 fn field_of(place: Place, value: u64) -> Field
     ensures { result ≡ placed place value }
 {
-    let mut field = Field {
+    let has_value = place.kind != 0 && place.state == DEFINED;
+    Field {
         kind: place.kind,
         state: place.state,
-        value: 0,
-    };
-    if place.kind != 0 {
-        if place.state == DEFINED {
-            field.value = value;
-        }
+        value: if has_value { value } else { 0 },
     }
-    field
 }
 
 // Whether a field has this kind and this state.
 fn is(field: Field, kind: u32, state: u32) -> bool
     ensures { result ≡ is· kind state field }
 {
-    if field.kind == kind {
-        field.state == state
-    } else {
-        false
-    }
+    field.kind == kind && field.state == state
 }
 
 // Whether a field is defined, of this kind, with this value.
 fn says(field: Field, kind: u32, value: u64) -> bool
     ensures { result ≡ says· kind value field }
 {
-    if is(field, kind, DEFINED) {
-        field.value == value
-    } else {
-        false
-    }
-}
-
-pub fn all_three(a: bool, b: bool, c: bool) -> bool
-    ensures { result ≡ (a && b && c) }
-{
-    if !a {
-        return false;
-    }
-    if b { c } else { false }
-}
-
-pub fn all_four(a: bool, b: bool, c: bool, d: bool) -> bool
-    ensures { result ≡ (a && b && c && d) }
-{
-    if !a {
-        return false;
-    }
-    if !b {
-        return false;
-    }
-    if c { d } else { false }
-}
-
-pub fn all_five(a: bool, b: bool, c: bool, d: bool, e: bool) -> bool
-    ensures { result ≡ (a && b && c && d && e) }
-{
-    if all_four(a, b, c, d) { e } else { false }
+    is(field, kind, DEFINED) && field.value == value
 }

@@ -10,11 +10,12 @@ use lib.Seq.{length-take-le, get_or-take, take_at, drop_at, drop-drop}
 use lib.Dec.{leb, ltb, eqb}
 use borrow.Author.Tests.{lt-ltb, le-ltb, le-leb, lt-leb, ne_eqb, ltb-true, ltb-false, leb-true, leb-false, eqb-true, eqb-false, eq-eqb}
 use borrow.Table.Steps.{cases}
-use Rattle.varint.specs.declared.Number.{Number}
-use Rattle.varint.specs.declared.Number.TheVariants.{Value, Cut, Overlong}
+use Rattle.std.specs.Prelude.{Err, Ok}
+use Rattle.varint.specs.Reading.{Read}
+use Rattle.varint.specs.declared.ReadError.TheVariants.{Cut, Overlong}
 use Rattle.varint.specs.Reading.{further, last_group, largest, number_refusal, joined, number_from, number_at, old_number_at, Bytes}
 use Rattle.varint.specs.Writing.{groups_of, bytes_of, width_of}
-use Rattle.varint.specs.Laws.{ReadBack, OnlyForm, Groups, GroupRule, ReadBeyond, CutRule, TooLong, OverlongRule, OldNumber, OldNumbers}
+use Rattle.varint.specs.Laws.{ReadBack, OnlyForm, Groups, GroupRule, ReadBeyond, CutRule, TooLong, OverlongRule, OldNumbers}
 use Rattle.varint.specs.Laws.Groups.{last_byte, goes_on}
 use Rattle.varint.specs.Laws.TooLong.{tenth-byte, last-zero}
 use Rattle.varint.proofs.WritingLaws.{top, groups-last, groups-step, bytes-last, bytes-step, width-most}
@@ -31,16 +32,16 @@ picked P false f g = g refl
 
 -- ---- the value's bound
 
-unfoldable pub Within : ℕ → Number → Type 0
-Within most (Value value next) = value ≤ most
-Within most Cut = Unit {0}
-Within most Overlong = Unit {0}
+unfoldable pub Within : ℕ → Read → Type 0
+Within most (Ok (value, next)) = value ≤ most
+Within most (Err Cut) = Unit {0}
+Within most (Err Overlong) = Unit {0}
 
-joined-within : (byte most : ℕ) (r : Number) → Within most r → Within (127 + 128 * most) (joined byte r)
+joined-within : (byte most : ℕ) (r : Read) → Within most r → Within (127 + 128 * most) (joined byte r)
 unfolding joined Within
-joined-within byte most (Value rest next) h = picked (Within (127 + 128 * most)) (eqb rest 0) (λ e. tt) (λ e. omega arith)
-joined-within byte most Cut h = tt
-joined-within byte most Overlong h = tt
+joined-within byte most (Ok (rest, next)) h = picked (Within (127 + 128 * most)) (eqb rest 0) (λ e. tt) (λ e. omega arith)
+joined-within byte most (Err Cut) h = tt
+joined-within byte most (Err Overlong) h = tt
 
 pub number-within : (last more : ℕ) (l : List ℕ) (at : ℕ) → Within (greatest last more) (number_from last more l at)
 unfolding Within greatest number_from
@@ -55,16 +56,16 @@ number-within last (suc more) (byte ∷ l) at =
 -- ---- what is written reads back
 
 back_step : (last more value : ℕ) (rest : List ℕ) (at : ℕ) → 128 ≤ value → value < 2 ^ 64
-    → number_from last more (bytes_of (value / 128) ++ rest) (at + 1) ≡ Value (value / 128) (at + 1 + width_of (value / 128))
-    → number_from last (suc more) (bytes_of value ++ rest) at ≡ Value value (at + width_of value)
+    → number_from last more (bytes_of (value / 128) ++ rest) (at + 1) ≡ (Ok (value / 128, at + 1 + width_of (value / 128)))
+    → number_from last (suc more) (bytes_of value ++ rest) at ≡ Ok (value, at + width_of value)
 unfolding number_from joined
 back_step last more value rest at large fits e =
     rw (bytes-step value)
     (rw (le-ltb (value % 128 + 128) 128 (omega arith), e, ne_eqb (value / 128) 0 (omega arith))
-    (ap₂ Value (omega arith) (omega arith)))
+    (ap₂ (λ (a b : ℕ). Ok (a, b)) (omega arith) (omega arith)))
 
 back : (last more value : ℕ) (rest : List ℕ) (at : ℕ) → last < 128 → value ≤ greatest last more → value < 2 ^ 64
-    → number_from last more (bytes_of value ++ rest) at ≡ Value value (at + width_of value)
+    → number_from last more (bytes_of value ++ rest) at ≡ Ok (value, at + width_of value)
 unfolding greatest number_from
 back last zero value rest at low h fits = rw (bytes-last value (omega arith)) (rw (le-leb value last))
 back last (suc more) value rest at low h fits =
@@ -81,19 +82,19 @@ read_back s rest at value h e =
 -- ---- what reads is what is written
 
 -- l, which stands at the place at, begins with the shortest form of the number read, and reading ends behind it
-unfoldable pub Shortest : List ℕ → ℕ → Number → Type 0
-Shortest l at (Value value next) = (rest : List ℕ) × (next ≡ at + width_of value) × (l ≡ bytes_of value ++ rest)
-Shortest l at Cut = Unit {0}
-Shortest l at Overlong = Unit {0}
+unfoldable pub Shortest : List ℕ → ℕ → Read → Type 0
+Shortest l at (Ok (value, next)) = (rest : List ℕ) × (next ≡ at + width_of value) × (l ≡ bytes_of value ++ rest)
+Shortest l at (Err Cut) = Unit {0}
+Shortest l at (Err Overlong) = Unit {0}
 
-shortest-one : (byte : ℕ) (l : List ℕ) (at : ℕ) → byte < 128 → Shortest (byte ∷ l) at (Value byte (at + 1))
+shortest-one : (byte : ℕ) (l : List ℕ) (at : ℕ) → byte < 128 → Shortest (byte ∷ l) at (Ok (byte, at + 1))
 unfolding Shortest
 shortest-one byte l at h = rw (bytes-last byte h) (l, omega arith, refl)
 
-shortest-more : (most byte : ℕ) (l : List ℕ) (at : ℕ) (r : Number) → 128 + 128 * most ≤ 2 ^ 64 → 128 ≤ byte → byte < 256 → Within most r
+shortest-more : (most byte : ℕ) (l : List ℕ) (at : ℕ) (r : Read) → 128 + 128 * most ≤ 2 ^ 64 → 128 ≤ byte → byte < 256 → Within most r
     → Shortest l (at + 1) r → Shortest (byte ∷ l) at (joined byte r)
 unfolding Shortest joined Within
-shortest-more most byte l at (Value value next) fits top small within s =
+shortest-more most byte l at (Ok (value, next)) fits top small within s =
     picked (Shortest (byte ∷ l) at) (eqb value 0)
     (λ e. tt)
     (λ e.
@@ -101,8 +102,8 @@ shortest-more most byte l at (Value value next) fits top small within s =
     let step : bytes_of (byte % 128 + 128 * value) ≡ byte ∷ bytes_of value = bytes-step (byte % 128 + 128 * value) some (omega arith)
     ∙ ap₂ (λ (b v : ℕ). b ∷ bytes_of v) (omega arith) (omega arith) in
     rw step (s.0, omega (arith, s.1), ap (λ (k : List ℕ). byte ∷ k) s.2))
-shortest-more most byte l at Cut fits top small within s = tt
-shortest-more most byte l at Overlong fits top small within s = tt
+shortest-more most byte l at (Err Cut) fits top small within s = tt
+shortest-more most byte l at (Err Overlong) fits top small within s = tt
 
 shortest : (last more : ℕ) (l : List ℕ) (at : ℕ) → last < 128 → greatest last more < 2 ^ 64 → Bytes l → Shortest l at (number_from last more l at)
 unfolding Shortest number_from greatest
@@ -124,12 +125,12 @@ bytes_drop (suc n) (b ∷ l) h = bytes_drop n l h.1
 
 -- what reads at a place of s, by any number of groups
 module _ (last more : ℕ) (low : last < 128) (fits : greatest last more < 2 ^ 64) where
-  form_of : (s : List ℕ) (at value next : ℕ) → Bytes s → number_from last more (drop at s) at ≡ Value value next
+  form_of : (s : List ℕ) (at value next : ℕ) → Bytes s → number_from last more (drop at s) at ≡ Ok (value, next)
       → (value ≤ greatest last more) × (next ≡ at + width_of value) × (drop at s ≡ bytes_of value ++ drop next s)
   unfolding Within Shortest
   form_of s at value next bytes e =
       let within : value ≤ greatest last more = subst (Within (greatest last more)) e (number-within last more (drop at s) at) in
-      let form : Shortest (drop at s) at (Value value next) =
+      let form : Shortest (drop at s) at (Ok (value, next)) =
       subst (Shortest (drop at s) at) e (shortest last more (drop at s) at low fits (bytes_drop at s bytes)) in
       let behind : drop next s ≡ form.0 =
       ap (λ (k : ℕ). drop k s) form.1
@@ -157,7 +158,7 @@ groups-written : (value : ℕ) → value ≤ largest → Groups value (bytes_of 
 unfolding bytes_of
 groups-written value h = groups further value (omega arith)
 
-groups-read : (s : List ℕ) (at value next : ℕ) → Bytes s → number_at s at ≡ Value value next → Groups value (take (next - at) (drop at s))
+groups-read : (s : List ℕ) (at value next : ℕ) → Bytes s → number_at s at ≡ Ok (value, next) → Groups value (take (next - at) (drop at s))
 groups-read s at value next bytes e =
     let form = only-form s at value next bytes e in
     let taken : take (next - at) (drop at s) ≡ bytes_of value =
@@ -180,13 +181,13 @@ group-rule = record { few = few-groups; written = groups-written; read = groups-
 
 -- ---- when it is above the largest
 
-beyond-first : (k value : ℕ) (rest : List ℕ) (at : ℕ) → 128 ≤ value → number_from last_group zero (groups_of k value ++ rest) at ≡ Overlong
+beyond-first : (k value : ℕ) (rest : List ℕ) (at : ℕ) → 128 ≤ value → number_from last_group zero (groups_of k value ++ rest) at ≡ Err Overlong
 unfolding number_from groups_of
 beyond-first zero value rest at large = rw (lt-leb value last_group (omega arith))
 beyond-first (suc k) value rest at large =
     rw (groups-step k value large) (rw (lt-leb (value % 128 + 128) last_group (omega arith)))
 
-beyond-from : (most k value : ℕ) (rest : List ℕ) (at : ℕ) → most ≤ k → greatest last_group most < value → number_from last_group most (groups_of k value ++ rest) at ≡ Overlong
+beyond-from : (most k value : ℕ) (rest : List ℕ) (at : ℕ) → most ≤ k → greatest last_group most < value → number_from last_group most (groups_of k value ++ rest) at ≡ Err Overlong
 unfolding number_from greatest joined
 beyond-from zero k value rest at few h =
     cases (ltb value 128)
@@ -209,27 +210,27 @@ read-beyond s rest at value h e =
 abbrev Ends : ℕ → List ℕ → Type 0
 Ends more l = (length l ≤ more) × ((i : ℕ) → i < length l → 128 ≤ get_or l i 0)
 
-joined-cut : (byte : ℕ) (r : Number) → (number_refusal (joined byte r) ≡ 2) ↔ (number_refusal r ≡ 2)
+joined-cut : (byte : ℕ) (r : Read) → (number_refusal (joined byte r) ≡ 2) ↔ (number_refusal r ≡ 2)
 unfolding joined
-joined-cut byte (Value value next) = (
-  picked (λ (r : Number). number_refusal r ≡ 2 → number_refusal (Value value next) ≡ 2) (eqb value 0) (λ e h. absurd (omega arith)) (λ e h. h),
+joined-cut byte (Ok (value, next)) = (
+  picked (λ (r : Read). number_refusal r ≡ 2 → number_refusal (Ok (value, next)) ≡ 2) (eqb value 0) (λ e h. absurd (omega arith)) (λ e h. h),
   λ h. absurd (omega arith),
 )
-joined-cut byte Cut = (λ h. h, λ h. h)
-joined-cut byte Overlong = (λ h. h, λ h. h)
+joined-cut byte (Err Cut) = (λ h. h, λ h. h)
+joined-cut byte (Err Overlong) = (λ h. h, λ h. h)
 
 cut-from : (last more : ℕ) (l : List ℕ) (at : ℕ) → (number_refusal (number_from last more l at) ≡ 2) ↔ Ends more l
 unfolding number_from
 cut-from last zero [] at = (λ h. (omega arith, λ i below. absurd (omega arith)), λ h. refl)
 cut-from last (suc more) [] at = (λ h. (omega arith, λ i below. absurd (omega arith)), λ h. refl)
 cut-from last zero (byte ∷ l) at = (
-  picked (λ (r : Number). number_refusal r ≡ 2 → Ends zero (byte ∷ l)) (leb byte last) (λ e h. absurd (omega arith)) (λ e h. absurd (omega arith)),
+  picked (λ (r : Read). number_refusal r ≡ 2 → Ends zero (byte ∷ l)) (leb byte last) (λ e h. absurd (omega arith)) (λ e h. absurd (omega arith)),
   λ ends. absurd (omega (arith, ends.0)),
 )
 cut-from last (suc more) (byte ∷ l) at =
     let rest = cut-from last more l (at + 1) in
     let joint = joined-cut byte (number_from last more l (at + 1)) in (
-      picked (λ (r : Number). number_refusal r ≡ 2 → Ends (suc more) (byte ∷ l)) (ltb byte 128)
+      picked (λ (r : Read). number_refusal r ≡ 2 → Ends (suc more) (byte ∷ l)) (ltb byte 128)
           (λ e h. absurd (omega arith))
           (λ e h. let behind = rest.0 (joint.0 h) in
           (omega (arith, behind.0), elim [ zero ↦ λ below. ltb-false byte 128 e | suc i ↦ λ below. behind.1 i (omega arith) ])),
@@ -267,16 +268,16 @@ data Long (last more : ℕ) (l : List ℕ) : Type 0 where
   zero-behind : (i : ℕ) → 1 ≤ i → i ≤ more → i < length l → ((j : ℕ) → j < i → 128 ≤ get_or l j 0) → get_or l i 0 ≡ 0 → Long last more l
 
 -- the number is read, and 0
-Zero : Number → Type 0
-Zero (Value value next) = value ≡ 0
-Zero Cut = ⊥
-Zero Overlong = ⊥
+Zero : Read → Type 0
+Zero (Ok (value, next)) = value ≡ 0
+Zero (Err Cut) = ⊥
+Zero (Err Overlong) = ⊥
 
-joined-zero : (byte : ℕ) (r : Number) → Zero (joined byte r) → ⊥
+joined-zero : (byte : ℕ) (r : Read) → Zero (joined byte r) → ⊥
 unfolding joined Zero
-joined-zero byte (Value value next) = picked (λ (r : Number). Zero r → ⊥) (eqb value 0) (λ e h. h) (λ e h. eqb-false value 0 e (omega arith))
-joined-zero byte Cut = λ h. h
-joined-zero byte Overlong = λ h. h
+joined-zero byte (Ok (value, next)) = picked (λ (r : Read). Zero r → ⊥) (eqb value 0) (λ e h. h) (λ e h. eqb-false value 0 e (omega arith))
+joined-zero byte (Err Cut) = λ h. h
+joined-zero byte (Err Overlong) = λ h. h
 
 -- so only a first byte 00 is
 zero-first : (last more : ℕ) (l : List ℕ) (at : ℕ) → Zero (number_from last more l at) ↔ ((0 < length l) × (get_or l 0 0 ≡ 0))
@@ -284,25 +285,25 @@ unfolding number_from Zero
 zero-first last zero [] at = (λ h. absurd h, λ h. absurd (omega (arith, h.0)))
 zero-first last (suc more) [] at = (λ h. absurd h, λ h. absurd (omega (arith, h.0)))
 zero-first last zero (byte ∷ l) at = (
-  picked (λ (r : Number). Zero r → (0 < length (byte ∷ l)) × (byte ≡ 0)) (leb byte last) (λ e h. (omega arith, h)) (λ e h. absurd h),
+  picked (λ (r : Read). Zero r → (0 < length (byte ∷ l)) × (byte ≡ 0)) (leb byte last) (λ e h. (omega arith, h)) (λ e h. absurd h),
   λ h. rw (le-leb byte last (omega (arith, h.1))) h.1,
 )
 zero-first last (suc more) (byte ∷ l) at = (
-  picked (λ (r : Number). Zero r → (0 < length (byte ∷ l)) × (byte ≡ 0)) (ltb byte 128) (λ e h. (omega arith, h))
+  picked (λ (r : Read). Zero r → (0 < length (byte ∷ l)) × (byte ≡ 0)) (ltb byte 128) (λ e h. (omega arith, h))
       (λ e h. absurd (joined-zero byte (number_from last more l (at + 1)) h)),
   λ h. rw (lt-ltb byte 128 (omega (arith, h.1))) h.1,
 )
 
-joined-long : (byte : ℕ) (r : Number) → (number_refusal (joined byte r) ≡ 3) ↔ ((number_refusal r ≡ 3) ⊎ Zero r)
+joined-long : (byte : ℕ) (r : Read) → (number_refusal (joined byte r) ≡ 3) ↔ ((number_refusal r ≡ 3) ⊎ Zero r)
 unfolding joined Zero
-joined-long byte (Value value next) = (
-  picked (λ (r : Number). number_refusal r ≡ 3 → (number_refusal (Value value next) ≡ 3) ⊎ (value ≡ 0)) (eqb value 0)
+joined-long byte (Ok (value, next)) = (
+  picked (λ (r : Read). number_refusal r ≡ 3 → (number_refusal (Ok (value, next)) ≡ 3) ⊎ (value ≡ 0)) (eqb value 0)
       (λ e h. inr (eqb-true value 0 e))
       (λ e h. inl h),
   ⊎_elim (λ h. absurd (omega arith)) (λ h. rw (eq-eqb value 0 h)),
 )
-joined-long byte Cut = (λ h. absurd (omega arith), ⊎_elim (λ h. absurd (omega arith)) (λ h. absurd h))
-joined-long byte Overlong = (λ h. inl h, λ h. refl)
+joined-long byte (Err Cut) = (λ h. absurd (omega arith), ⊎_elim (λ h. absurd (omega arith)) (λ h. absurd h))
+joined-long byte (Err Overlong) = (λ h. inl h, λ h. refl)
 
 -- one byte more that goes on
 long-more : (last more byte : ℕ) (l : List ℕ) → 128 ≤ byte → Long last more l → Long last (suc more) (byte ∷ l)
@@ -331,7 +332,7 @@ unfolding number_from
 long-from last zero [] at = (λ h. absurd (omega arith), λ h. absurd (no-long last zero h))
 long-from last (suc more) [] at = (λ h. absurd (omega arith), λ h. absurd (no-long last (suc more) h))
 long-from last zero (byte ∷ l) at = (
-  picked (λ (r : Number). number_refusal r ≡ 3 → Long last zero (byte ∷ l)) (leb byte last)
+  picked (λ (r : Read). number_refusal r ≡ 3 → Long last zero (byte ∷ l)) (leb byte last)
       (λ e h. absurd (omega arith))
       (λ e h. above (omega arith) (λ i below. absurd (omega arith)) (leb-false byte last e)),
   λ h. rw (lt-leb byte last (long-one last byte l h)),
@@ -340,7 +341,7 @@ long-from last (suc more) (byte ∷ l) at =
     let rest = long-from last more l (at + 1) in
     let none = zero-first last more l (at + 1) in
     let joint = joined-long byte (number_from last more l (at + 1)) in (
-      picked (λ (r : Number). number_refusal r ≡ 3 → Long last (suc more) (byte ∷ l)) (ltb byte 128)
+      picked (λ (r : Read). number_refusal r ≡ 3 → Long last (suc more) (byte ∷ l)) (ltb byte 128)
           (λ e h. absurd (omega arith))
           (λ e h. let high : 128 ≤ byte = ltb-false byte 128 e in
           ⊎_elim (λ long. long-more last more byte l high (rest.0 long))
@@ -368,19 +369,19 @@ overlong-rule s at =
 -- ---- what five bytes hold reads as before
 
 module _ (s : List ℕ) (at : ℕ) (bytes : Bytes s) where
-  old-reads : (value next : ℕ) → old_number_at s at ≡ Value value next → (number_at s at ≡ Value value next) × (value ≤ 4_294_967_295)
+  old-reads : (value next : ℕ) → old_number_at s at ≡ Ok (value, next) → (number_at s at ≡ Ok (value, next)) × (value ≤ 4_294_967_295)
   unfolding old_number_at greatest
   old-reads value next e =
       let form = form_of 0x0F 4 (omega arith) (omega arith) s at value next bytes e in
-      (read_back s (drop next s) at value (omega (arith, form.0)) form.2 ∙ ap (Value value) (sym form.1), form.0)
+      (read_back s (drop next s) at value (omega (arith, form.0)) form.2 ∙ ap (λ (n : ℕ). Ok (value, n)) (sym form.1), form.0)
 
-  reads_old : (value next : ℕ) → number_at s at ≡ Value value next → value ≤ 4_294_967_295 → old_number_at s at ≡ Value value next
+  reads_old : (value next : ℕ) → number_at s at ≡ Ok (value, next) → value ≤ 4_294_967_295 → old_number_at s at ≡ Ok (value, next)
   unfolding old_number_at greatest
   reads_old value next e few =
       let form = only-form s at value next bytes e in
       ap (λ (l : List ℕ). number_from 0x0F 4 l at) form.2
       ∙ back 0x0F 4 value (drop next s) at (omega arith) few (omega arith)
-      ∙ ap (Value value) (sym form.1)
+      ∙ ap (λ (n : ℕ). Ok (value, n)) (sym form.1)
 
 old-cut : (s : List ℕ) (at : ℕ) → (number_refusal (old_number_at s at) ≡ 2) ↔ ((number_refusal (number_at s at) ≡ 2) × (length (drop at s) < 5))
 unfolding old_number_at number_at

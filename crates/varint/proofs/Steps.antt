@@ -11,8 +11,9 @@ use lib.Dec.{ltb, eqb}
 use lib.Seq.{drop-cons}
 use borrow.Author.Tests.{lt-ltb, le-ltb, le-leb, lt-leb, ltb-true, ltb-false, eqb-true, eqb-false, eq-eqb, ne_eqb}
 use borrow.Table.Steps.{cases}
-use Rattle.varint.specs.declared.Number.{Number}
-use Rattle.varint.specs.declared.Number.TheVariants.{Value, Cut, Overlong}
+use Rattle.std.specs.Prelude.{Err, Ok}
+use Rattle.varint.specs.Reading.{Read}
+use Rattle.varint.specs.declared.ReadError.TheVariants.{Cut, Overlong}
 use Rattle.varint.specs.Reading.{further, last_group, joined, number_from, number_at}
 
 -- ---- the groups passed
@@ -31,10 +32,10 @@ worth-up (suc passed) zero h = absurd (omega arith)
 worth-up (suc passed) (suc most) h = omega (arith, worth-up passed most (omega arith))
 
 -- the number that the groups passed and the number behind them make: 0 behind a group is a last byte 00
-unfoldable pub grown : ℕ → ℕ → Number → Number
-grown value worth (Value rest next) = cond (eqb rest 0 && ltb 1 worth) Overlong (Value (value + worth * rest) next)
-grown value worth Cut = Cut
-grown value worth Overlong = Overlong
+unfoldable pub grown : ℕ → ℕ → Read → Read
+grown value worth (Ok (rest, next)) = cond (eqb rest 0 && ltb 1 worth) (Err Overlong) (Ok (value + worth * rest, next))
+grown value worth (Err Cut) = Err Cut
+grown value worth (Err Overlong) = Err Overlong
 
 -- what is passed and what is left give the number at the start
 pub record Passed (s : List ℕ) (at value worth place more : ℕ) : Type 0 where
@@ -43,11 +44,11 @@ pub record Passed (s : List ℕ) (at value worth place more : ℕ) : Type 0 wher
   pub small : value < worth
   pub same : number_at s at ≡ grown value worth (number_from last_group more (drop place s) place)
 
-alone : (number : Number) → number ≡ grown 0 1 number
+alone : (number : Read) → number ≡ grown 0 1 number
 unfolding grown
-alone (Value rest next) = rw (and-false (eqb rest 0)) (ap (λ (v : ℕ). Value v next) (omega arith))
-alone Cut = refl
-alone Overlong = refl
+alone (Ok (rest, next)) = rw (and-false (eqb rest 0)) (ap (λ (v : ℕ). (Ok (v, next))) (omega arith))
+alone (Err Cut) = refl
+alone (Err Overlong) = refl
 
 -- how many groups may follow does not matter where the bytes are no more
 enough : (more most : ℕ) (l : List ℕ) (at : ℕ) → length l ≤ more → more ≤ most → number_from last_group most l at ≡ number_from last_group more l at
@@ -58,7 +59,7 @@ enough zero (suc most) (byte ∷ l) at short few = absurd (omega arith)
 enough (suc more) zero l at short few = absurd (omega arith)
 enough (suc more) (suc most) [] at short few = refl
 enough (suc more) (suc most) (byte ∷ l) at short few =
-    ap (λ (rest : Number). cond (ltb byte 128) (Value byte (at + 1)) (joined byte rest)) (enough more most l (at + 1) (omega arith) (omega arith))
+    ap (λ (rest : Read). cond (ltb byte 128) (Ok (byte, at + 1)) (joined byte rest)) (enough more most l (at + 1) (omega arith) (omega arith))
 
 -- what `most_further` promises
 abbrev pub most_further : ℕ → ℕ
@@ -87,9 +88,9 @@ module _ (s : List ℕ) (at : ℕ) where
 -- ---- one group more
 
 -- a group that more follow joins what is passed
-joined-grown : (byte value worth : ℕ) (number : Number) → 1 ≤ worth → grown value worth (joined byte number) ≡ grown (value + worth * (byte % 128)) (worth * 128) number
+joined-grown : (byte value worth : ℕ) (number : Read) → 1 ≤ worth → grown value worth (joined byte number) ≡ grown (value + worth * (byte % 128)) (worth * 128) number
 unfolding grown joined
-joined-grown byte value worth (Value rest next) some =
+joined-grown byte value worth (Ok (rest, next)) some =
     let low = byte % 128 in
     let more : ltb 1 (worth * 128) ≡ true = lt-ltb 1 (worth * 128) (omega arith) in
     cases (eqb rest 0)
@@ -97,25 +98,25 @@ joined-grown byte value worth (Value rest next) some =
     (λ e. let other : eqb (low + 128 * rest) 0 ≡ false = ne_eqb (low + 128 * rest) 0 (λ none. eqb-false rest 0 e (omega arith)) in
     let sum : value + worth * (low + 128 * rest) ≡ value + worth * low + worth * 128 * rest =
     omega (arith, mul-add worth low (128 * rest), mul_assoc worth 128 rest) in
-    rw (e, other) (ap (λ (v : ℕ). Value v next) sum))
-joined-grown byte value worth Cut some = refl
-joined-grown byte value worth Overlong some = refl
+    rw (e, other) (ap (λ (v : ℕ). (Ok (v, next))) sum))
+joined-grown byte value worth (Err Cut) some = refl
+joined-grown byte value worth (Err Overlong) some = refl
 
 -- no byte is left
-none-cut : (value worth more place : ℕ) → grown value worth (number_from last_group more [] place) ≡ Cut
+none-cut : (value worth more place : ℕ) → grown value worth (number_from last_group more [] place) ≡ Err Cut
 unfolding grown number_from
 none-cut value worth zero place = refl
 none-cut value worth (suc more) place = refl
 
 module _ (byte : ℕ) (rest : List ℕ) (place : ℕ) where
   -- a group that is the last
-  last-group : (more : ℕ) → byte < 128 → (more ≡ 0 → byte ≤ last_group) → number_from last_group more (byte ∷ rest) place ≡ Value byte (place + 1)
+  last-group : (more : ℕ) → byte < 128 → (more ≡ 0 → byte ≤ last_group) → number_from last_group more (byte ∷ rest) place ≡ Ok (byte, place + 1)
   unfolding number_from
   last-group zero low few = rw (le-leb byte last_group (few refl))
   last-group (suc more) low few = rw (lt-ltb byte 128 low)
 
   -- one above the largest where no more may follow
-  above-group : (more : ℕ) → more ≡ 0 → last_group < byte → number_from last_group more (byte ∷ rest) place ≡ Overlong
+  above-group : (more : ℕ) → more ≡ 0 → last_group < byte → number_from last_group more (byte ∷ rest) place ≡ Err Overlong
   unfolding number_from
   above-group more none above = rw none (rw (lt-leb byte last_group above))
 
@@ -134,18 +135,6 @@ abbrev pub overlong : ℕ → ℕ → ℕ → Bool
 overlong byte worth more = cond (eqb byte 0) (ltb 1 worth) (eqb more 0 && ltb last_group byte)
 
 module _ (byte worth more : ℕ) where
-  -- a last byte 00
-  pub last-zero : byte ≡ 0 → ltb 1 worth ≡ overlong byte worth more
-  last-zero none = rw (eq-eqb byte 0 none)
-
-  -- another one, where no more may follow
-  pub last-largest : (byte ≡ 0 → ⊥) → more ≡ 0 → ltb last_group byte ≡ overlong byte worth more
-  last-largest some none = rw (ne_eqb byte 0 some, eq-eqb more 0 none)
-
-  -- and where more may
-  pub last_inner : (byte ≡ 0 → ⊥) → (more ≡ 0 → ⊥) → false ≡ overlong byte worth more
-  last_inner some follow = rw (ne_eqb byte 0 some, ne_eqb more 0 follow)
-
   -- one that is not too long is at most the largest, where no more may follow
   last-few : more ≡ 0 → overlong byte worth more ≡ false → byte ≤ last_group
   last-few none fine =
@@ -182,7 +171,7 @@ module _ {s : List ℕ} {at value worth place more : ℕ} (passed : Passed s at 
       omega (arith, passed.small, few-worth, part byte 1 few))
       (λ e. (inner-fits byte low (eqb-false more 0 e)).0)
 
-  pub cut : length s ≤ place → Cut ≡ number_at s at
+  pub cut : length s ≤ place → (Err Cut) ≡ number_at s at
   cut end = sym (passed.same ∙ ap (λ (l : List ℕ). grown value worth (number_from last_group more l place)) (drop_of_length-le s end) ∙ none-cut value worth more place)
 
   module _ (byte : ℕ) (inside : place < length s) (read : byte ≡ get_or s place 0) where
@@ -192,7 +181,7 @@ module _ {s : List ℕ} {at value worth place more : ℕ} (passed : Passed s at 
         ∙ ap (λ (l : List ℕ). grown value worth (number_from last_group more l place))
         (drop-cons s place 0 inside ∙ ap (λ (b : ℕ). b ∷ drop (suc place) s) (sym read) ∙ ap (λ (k : ℕ). byte ∷ drop k s) (sym (add-one place)))
 
-    pub ends : byte < 128 → overlong byte worth more ≡ false → Value (value + worth * byte) (place + 1) ≡ number_at s at
+    pub ends : byte < 128 → overlong byte worth more ≡ false → (Ok (value + worth * byte, place + 1)) ≡ number_at s at
     unfolding grown
     ends low fine =
         sym (here ∙ cases (eqb byte 0)
@@ -203,7 +192,7 @@ module _ {s : List ℕ} {at value worth place more : ℕ} (passed : Passed s at 
         let few : more ≡ 0 → byte ≤ last_group = λ none. ltb-false last_group byte (rw (eq-eqb more 0 none) at short) in
         ap (grown value worth) (last-group byte _ place more low few) ∙ rw e))
 
-    pub too_long : byte < 128 → overlong byte worth more ≡ true → Overlong ≡ number_at s at
+    pub too_long : byte < 128 → overlong byte worth more ≡ true → (Err Overlong) ≡ number_at s at
     unfolding grown
     too_long low wrong =
         sym (here ∙ cases (eqb byte 0)
@@ -214,7 +203,7 @@ module _ {s : List ℕ} {at value worth place more : ℕ} (passed : Passed s at 
         let parts = (and-eq-true_iff (eqb more 0) (ltb last_group byte)).0 long in
         ap (grown value worth) (above-group byte _ place more (eqb-true more 0 parts.0) (ltb-true last_group byte parts.1))))
 
-    pub beyond : more ≡ 0 → 128 ≤ byte → Overlong ≡ number_at s at
+    pub beyond : more ≡ 0 → 128 ≤ byte → (Err Overlong) ≡ number_at s at
     unfolding grown
     beyond none high = sym (here ∙ ap (grown value worth) (above-group byte _ place more none (omega arith)))
 
@@ -230,8 +219,8 @@ module _ {s : List ℕ} {at value worth place more : ℕ} (passed : Passed s at 
         }
 
 -- a number of one byte
-pub one_byte : (s : List ℕ) (at byte : ℕ) → at < length s → byte ≡ get_or s at 0 → byte < 128 → Value byte (at + 1) ≡ number_at s at
+pub one_byte : (s : List ℕ) (at byte : ℕ) → at < length s → byte ≡ get_or s at 0 → byte < 128 → (Ok (byte, at + 1)) ≡ number_at s at
 one_byte s at byte inside read low =
     let fine : overlong byte 1 further ≡ false = cases (eqb byte 0) (λ e. rw e) (λ e. rw e) in
     let whole : byte ≡ 0 + 1 * byte = omega arith in
-    ap (λ (v : ℕ). Value v (at + 1)) whole ∙ ends (passed_none s at) byte inside read low fine
+    ap (λ (v : ℕ). (Ok (v, at + 1))) whole ∙ ends (passed_none s at) byte inside read low fine

@@ -12,7 +12,8 @@ use borrow.Table.Steps.{cases}
 use Rattle.varint.specs.Reading.{further, largest}
 use Rattle.varint.specs.Writing.{groups_of, bytes_of, width_of, stored, written_refusal, written_at, left_at}
 use Rattle.varint.specs.Laws.{Stored, WriteRule, WriteRules}
-use Rattle.varint.specs.declared.Written.TheVariants.{Next, Beyond, NoRoom}
+use Rattle.std.specs.Prelude.{Err, Ok}
+use Rattle.varint.specs.declared.WriteError.TheVariants.{Beyond, NoRoom}
 
 -- the first number that `more` groups behind the first do not hold
 unfoldable pub top : ℕ → ℕ
@@ -113,12 +114,12 @@ width-of-many value h = omega (arith, width-most value, groups-many 8 further va
 
 -- ---- what writing a number answers and leaves, by whether it is held and has room
 
-written-beyond : (s : List ℕ) (at value : ℕ) → largest < value → (Beyond ≡ written_at (length s) at value) × (s ≡ left_at s at value)
+written-beyond : (s : List ℕ) (at value : ℕ) → largest < value → ((Err Beyond) ≡ written_at (length s) at value) × (s ≡ left_at s at value)
 unfolding written_at left_at
 written-beyond s at value h = (rw (lt-ltb largest value h), rw (lt-ltb largest value h))
 
 pub written-full : (s : List ℕ) (at value : ℕ) → value ≤ largest → length s < at + width_of value
-    → (NoRoom ≡ written_at (length s) at value) × (s ≡ left_at s at value)
+    → ((Err NoRoom) ≡ written_at (length s) at value) × (s ≡ left_at s at value)
 unfolding written_at left_at
 written-full s at value held full = (
   rw (le-ltb largest value held, lt-leb (at + width_of value) (length s) full),
@@ -126,7 +127,7 @@ written-full s at value held full = (
 )
 
 pub written_next : (s : List ℕ) (at value : ℕ) → value ≤ largest → at + width_of value ≤ length s
-    → (Next (at + width_of value) ≡ written_at (length s) at value) × (stored s at (bytes_of value) ≡ left_at s at value)
+    → (Ok (at + width_of value) ≡ written_at (length s) at value) × (stored s at (bytes_of value) ≡ left_at s at value)
 unfolding written_at left_at
 written_next s at value held fits = (
   rw (le-ltb largest value held, le-leb (at + width_of value) (length s) fits),

@@ -1,19 +1,17 @@
 -- The laws of numbers, as claims over the definitions.
-use Rattle.std.specs.Prelude.{◌≡◌, ◌↔◌, ℕ, ◌+◌, ◌-◌, ◌*◌, ◌≤◌, ◌<◌, List, [], ◌∷◌, ◌++◌, length, take, drop, get_or}
-use Rattle.varint.specs.declared.Number.{Number}
-use Rattle.varint.specs.declared.Number.TheVariants.{Value}
-use Rattle.varint.specs.declared.Written.{Written}
-use Rattle.varint.specs.declared.Written.TheVariants.{Next}
+use Rattle.std.specs.Prelude.{◌≡◌, ◌↔◌, ℕ, ◌+◌, ◌-◌, ◌*◌, ◌≤◌, ◌<◌, List, [], ◌∷◌, ◌++◌, length, take, drop, get_or, Ok}
+use Rattle.varint.specs.Reading.{Read}
+use Rattle.varint.specs.Writing.{Written}
 use Rattle.varint.specs.Reading.{largest, number_refusal, refused, number_at, old_number_at, Bytes}
 use Rattle.varint.specs.Writing.{bytes_of, width_of, written_refusal, unwritten, written_at, left_at}
 
 -- what is written reads back, at every place and with any bytes behind it
 abbrev pub ReadBack : Type 0
-ReadBack = (s rest : List ℕ) (at value : ℕ) → value ≤ largest → drop at s ≡ bytes_of value ++ rest → number_at s at ≡ Value value (at + width_of value)
+ReadBack = (s rest : List ℕ) (at value : ℕ) → value ≤ largest → drop at s ≡ bytes_of value ++ rest → number_at s at ≡ Ok (value, at + width_of value)
 
 -- what reads is exactly what is written for its value
 abbrev pub OnlyForm : Type 0
-OnlyForm = (s : List ℕ) (at value next : ℕ) → Bytes s → number_at s at ≡ Value value next → (value ≤ largest) × (next ≡ at + width_of value) × (drop at s ≡ bytes_of value ++ drop next s)
+OnlyForm = (s : List ℕ) (at value next : ℕ) → Bytes s → number_at s at ≡ Ok (value, next) → (value ≤ largest) × (next ≡ at + width_of value) × (drop at s ≡ bytes_of value ++ drop next s)
 
 -- the bytes of a number: the low seven bits of the first, plus 128 times the number that follows if the byte's top bit is set; the number that follows
 -- is not 0
@@ -25,7 +23,7 @@ pub data Groups : ℕ → List ℕ → Type 0 where
 pub record GroupRule : Type 0 where
   pub few : (value : ℕ) (l : List ℕ) → value ≤ 18_446_744_073_709_551_615 → Groups value l → length l ≤ 10
   pub written : (value : ℕ) → value ≤ 18_446_744_073_709_551_615 → Groups value (bytes_of value)
-  pub read : (s : List ℕ) (at value next : ℕ) → Bytes s → number_at s at ≡ Value value next → Groups value (take (next - at) (drop at s))
+  pub read : (s : List ℕ) (at value next : ℕ) → Bytes s → number_at s at ≡ Ok (value, next) → Groups value (take (next - at) (drop at s))
 
 -- the bytes that the writer's form gives a number above the largest are refused 3
 abbrev pub ReadBeyond : Type 0
@@ -33,7 +31,7 @@ ReadBeyond = (s rest : List ℕ) (at value : ℕ) → 18_446_744_073_709_551_615
 
 -- each answer that is a refusal is the one of its number
 pub record Numbered : Type 0 where
-  pub reading : (r : Number) → (number_refusal r ≡ 0 → ⊥) → refused (number_refusal r) ≡ r
+  pub reading : (r : Read) → (number_refusal r ≡ 0 → ⊥) → refused (number_refusal r) ≡ r
   pub writing : (r : Written) → (written_refusal r ≡ 0 → ⊥) → unwritten (written_refusal r) ≡ r
 
 -- a number is refused 2 exactly when fewer than ten bytes are left and each of them goes on, its top bit being set
@@ -54,7 +52,7 @@ OverlongRule = (s : List ℕ) (at : ℕ) → (number_refusal (number_at s at) �
 -- request 2.10, old numbers read as before. A number that document 01 read is read alike, value and place: these are the ones that read and are at most
 -- 4,294,967,295. What it refused 2 is refused 2: it is what is cut with fewer than five bytes left
 pub record OldNumber (s : List ℕ) (at : ℕ) : Type 0 where
-  pub reads : (value next : ℕ) → (old_number_at s at ≡ Value value next) ↔ ((number_at s at ≡ Value value next) × (value ≤ 4_294_967_295))
+  pub reads : (value next : ℕ) → (old_number_at s at ≡ Ok (value, next)) ↔ ((number_at s at ≡ Ok (value, next)) × (value ≤ 4_294_967_295))
   pub cut : (number_refusal (old_number_at s at) ≡ 2) ↔ ((number_refusal (number_at s at) ≡ 2) × (length (drop at s) < 5))
 
 abbrev pub OldNumbers : Type 0
@@ -73,7 +71,7 @@ pub record WriteRule (s : List ℕ) (at value : ℕ) : Type 0 where
   pub beyond : (written_refusal (written_at (length s) at value) ≡ 3) ↔ (18_446_744_073_709_551_615 < value)
   pub no_room : (written_refusal (written_at (length s) at value) ≡ 10) ↔ ((value ≤ 18_446_744_073_709_551_615) × (length s < at + width_of value))
   pub kept : (written_refusal (written_at (length s) at value) ≡ 0 → ⊥) → left_at s at value ≡ s
-  pub written : value ≤ 18_446_744_073_709_551_615 → at + width_of value ≤ length s → (written_at (length s) at value ≡ Next (at + width_of value)) × Stored s at value
+  pub written : value ≤ 18_446_744_073_709_551_615 → at + width_of value ≤ length s → (written_at (length s) at value ≡ Ok (at + width_of value)) × Stored s at value
 
 abbrev pub WriteRules : Type 0
 WriteRules = (s : List ℕ) (at value : ℕ) → WriteRule s at value

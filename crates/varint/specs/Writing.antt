@@ -1,8 +1,8 @@
 -- Document 01, "Bytes": the shortest form of a number, and what writing it answers and leaves, each refusal by 01's number.
-use Rattle.std.specs.Prelude.{ℕ, zero, suc, ◌+◌, ◌/◌, ◌%◌, cond, List, [], ◌∷◌, ◌++◌, length, take, drop, leb, ltb, eqb}
+use Rattle.std.specs.Prelude.{ℕ, zero, suc, ◌+◌, ◌/◌, ◌%◌, cond, List, [], ◌∷◌, ◌++◌, length, take, drop, leb, ltb, eqb, Result, Err, Ok}
 use Rattle.varint.specs.Reading.{further, largest}
-use Rattle.varint.specs.declared.Written.{Written}
-use Rattle.varint.specs.declared.Written.TheVariants.{Next, Beyond, NoRoom}
+use Rattle.varint.specs.declared.WriteError.{WriteError}
+use Rattle.varint.specs.declared.WriteError.TheVariants.{Beyond, NoRoom}
 
 -- ---- the bytes
 
@@ -23,21 +23,25 @@ width_of value = length (bytes_of value)
 abbrev pub stored : List ℕ → ℕ → List ℕ → List ℕ
 stored s at t = take at s ++ t ++ drop (at + length t) s
 
+-- the place behind the last byte, or why the number can't be written
+abbrev pub Written : Type 0
+Written = Result ℕ WriteError
+
 -- ---- 01's number of each answer that is a refusal, 0 for one that is none, and the answer of each number
 
 abbrev pub written_refusal : Written → ℕ
-written_refusal (Next next) = 0
-written_refusal Beyond = 3
-written_refusal NoRoom = 10
+written_refusal (Ok next) = 0
+written_refusal (Err Beyond) = 3
+written_refusal (Err NoRoom) = 10
 
 abbrev pub unwritten : ℕ → Written
-unwritten number = cond (eqb number 3) Beyond NoRoom
+unwritten number = cond (eqb number 3) (Err Beyond) (Err NoRoom)
 
 -- ---- writing
 
 -- what writing a number at a place of a buffer of `room` bytes answers
 unfoldable pub written_at : ℕ → ℕ → ℕ → Written
-written_at room at value = cond (ltb largest value) (unwritten 3) (cond (leb (at + width_of value) room) (Next (at + width_of value)) (unwritten 10))
+written_at room at value = cond (ltb largest value) (unwritten 3) (cond (leb (at + width_of value) room) (Ok (at + width_of value)) (unwritten 10))
 
 -- what it leaves in the buffer
 unfoldable pub left_at : List ℕ → ℕ → ℕ → List ℕ

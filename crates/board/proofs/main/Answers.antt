@@ -6,12 +6,12 @@ use Rattle.board.proofs.main.Goals as goal
 
 pub slice_bounds-text-end : goal.slice_bounds-text-end
 slice_bounds-text-end c =
-    let p = c.print-printed in
-    let l = c.in-Length in
+    let p = c.print in
+    let l = c.in-Ok in
     printed-inside _ _ p.new.buffer p.result l.length p.ensures.value p.ensures.buffer_after l.is
 
 pub slice_bounds-write_all-end : goal.slice_bounds-write_all-end
 slice_bounds-write_all-end c =
-    let p = c.print-printed in
-    let l = c.in-Length in
+    let p = c.print in
+    let l = c.in-Ok in
     sym (length-take-le l.length p.new.buffer (printed-inside _ _ p.new.buffer p.result l.length p.ensures.value p.ensures.buffer_after l.is))

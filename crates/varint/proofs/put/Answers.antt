@@ -1,6 +1,6 @@
 -- `varint::put` meets its contract. The loop's invariant: the buffer, with the bytes of the rest from the present place on, is the
 -- buffer at the start with the number's bytes.
-use mathlib.Core.Path.{◌≡◌, refl, sym, ap, ◌∙◌}
+use mathlib.Core.Path.{◌≡◌, sym, ap, ◌∙◌}
 use Prim.Native.Nat.{ℕ, ◌+◌, ◌%◌, ◌/◌}
 use native.Mathlib.Omega.{arith}
 use native.Mathlib.Numerals.{add-one}
@@ -19,23 +19,8 @@ step c = bytes-step c.loop-rest.rest c.loop-rest-test.true (omega (arith, c.rang
 last : (c : After-loop-rest) → bytes_of c.loop-rest.rest ≡ c.loop-rest.rest ∷ []
 last c = bytes-last c.loop-rest.rest c.loop-rest-test.false
 
-pub loop-rest-init : goal.loop-rest-init
-loop-rest-init c = (refl, refl, refl, omega arith)
-
-pub overflow_add-buffer : goal.overflow_add-buffer
-overflow_add-buffer c = omega arith
-
-pub overflow_cast-buffer : goal.overflow_cast-buffer
-overflow_cast-buffer c = omega arith
-
 pub bounds-buffer-place : goal.bounds-buffer-place
 bounds-buffer-place c = omega (arith, ap length (step c), width-least (c.loop-rest.rest / 128))
-
-pub overflow_add-place : goal.overflow_add-place
-overflow_add-place c = omega (arith, ap length (step c), width-least (c.loop-rest.rest / 128))
-
-pub loop-rest-smaller : goal.loop-rest-smaller
-loop-rest-smaller c = omega arith
 
 pub loop-rest-preserved : goal.loop-rest-preserved
 loop-rest-preserved c =
@@ -48,14 +33,8 @@ loop-rest-preserved c =
       omega arith,
     )
 
-pub overflow_cast-buffer-2 : goal.overflow_cast-buffer-2
-overflow_cast-buffer-2 c = omega arith
-
 pub bounds-buffer-place-2 : goal.bounds-buffer-place-2
 bounds-buffer-place-2 c = omega (arith, ap length (last c))
-
-pub shape_of-buffer : goal.shape_of-buffer
-shape_of-buffer c = simp length-set c.loop-rest.invariant.2
 
 pub returns : goal.returns
 returns c =

@@ -10,4 +10,4 @@ returns-then-s-at c =
 pub returns-then-first-lt128 : goal.returns-then-first-lt128
 returns-then-first-lt128 c =
     let a = c.args in
-    one_byte a.s.now a.at c.wide-first.result c.if-s-at.false c.wide-first.ensures c.if-first-lt128.true
+    one_byte a.s.now a.at c.from-first.result c.if-s-at.false c.from-first.ensures c.if-first-lt128.true

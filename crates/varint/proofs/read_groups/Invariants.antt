@@ -4,6 +4,3 @@ use Rattle.varint.proofs.read_groups.Given as goal
 
 abbrev pub invariant-loop-place : goal.invariant-loop-place
 invariant-loop-place l = Passed l.s l.at l.value l.worth l.place l.more
-
-abbrev pub decreases-loop-place : goal.decreases-loop-place
-decreases-loop-place l = l.more

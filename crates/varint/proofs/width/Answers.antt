@@ -8,9 +8,6 @@ use Rattle.varint.proofs.width.Goals as goal
 pub overflow_add-n : goal.overflow_add-n
 overflow_add-n c = omega (arith, width-most c.args.value)
 
-pub loop-rest-smaller : goal.loop-rest-smaller
-loop-rest-smaller c = omega arith
-
 pub loop-rest-preserved : goal.loop-rest-preserved
 loop-rest-preserved c = omega (arith, ap length (bytes-step c.loop-rest.rest c.loop-rest-test.true (omega (arith, c.ranges.value))))
 

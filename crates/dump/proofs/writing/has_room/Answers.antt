@@ -1,11 +1,11 @@
 -- `dump::writing::has_room` meets its contract: a buffer that every script fits in needs no measuring, and of another the measure decides.
-use mathlib.Core.Path.{◌≡◌, sym, ap}
+use mathlib.Core.Path.{◌≡◌, sym, ap, ◌∙◌}
 use Prim.Native.Nat.{ℕ, ◌+◌}
 use native.Mathlib.Omega.{arith}
 use lib.Dec.{leb}
 use lib.ListN.{length}
 use borrow.Author.Tests.{le-leb}
-use Rattle.dump.specs.Dumps.{dump_bytes}
+use Rattle.dump.specs.Dumps.{dump_bytes, dump_most}
 use Rattle.dump.proofs.SoundCalls.{dump-most}
 use Rattle.dump.proofs.WritingSteps.{dump-length}
 use Rattle.space.proofs.Lengths.{typed}
@@ -15,7 +15,7 @@ use Rattle.dump.proofs.writing.has_room.Goals as goal
 
 pub returns-then-room-ge-DUMP_BYTES : goal.returns-then-room-ge-DUMP_BYTES
 returns-then-room-ge-DUMP_BYTES c =
-    sym (le-leb (length (dump_bytes c.args.space)) c.args.room (omega (arith, dump-most c.args.space (typed c.args.space _ c.well_formed.0) c.requires, c.if-room-ge-DUMP_BYTES.true)))
+    le-leb dump_most c.args.room c.if-room-ge-DUMP_BYTES.true ∙ sym (le-leb (length (dump_bytes c.args.space)) c.args.room (omega (arith, dump-most c.args.space (typed c.args.space _ c.well_formed.0) c.requires, c.if-room-ge-DUMP_BYTES.true)))
 
 pub set_up_width-requires : goal.set_up_width-requires
 set_up_width-requires c = formed-sound c.args.space c.requires.formed
@@ -31,5 +31,5 @@ pub overflow_add-result : goal.overflow_add-result
 overflow_add-result c =
     omega (arith, width c, dump-most c.args.space (typed c.args.space _ c.well_formed.0) c.requires)
 
-pub returns : goal.returns
-returns c = ap (λ (n : ℕ). leb n c.args.room) (width c)
+pub returns-else-room-ge-DUMP_BYTES : goal.returns-else-room-ge-DUMP_BYTES
+returns-else-room-ge-DUMP_BYTES c = ap (λ (n : ℕ). leb n c.args.room) (width c)

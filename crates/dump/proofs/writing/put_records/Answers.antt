@@ -1,11 +1,11 @@
 -- `dump::writing::put_records` meets its contract. The loop's invariant: the buffer with the records left is the buffer with all of them.
-use mathlib.Core.Path.{◌≡◌, refl, sym, ap, ◌∙◌}
-use Prim.Native.Nat.{◌+◌, ◌<◌}
+use mathlib.Core.Path.{◌≡◌, refl, sym, ap, ◌∙◌, subst}
+use Prim.Native.Nat.{◌+◌}
 use native.Mathlib.Omega.{arith}
 use mathlib.Core.List.{◌++◌}
 use lib.ListN.{length}
 use lib.Seq.{sets}
-use Rattle.dump.proofs.HeldSteps.{call_at}
+use Rattle.dump.proofs.HeldSteps.{call_at, held-below, held-call, held-past}
 use Rattle.dump.proofs.SoundCalls.{call-faultless}
 use Rattle.dump.proofs.WritingSteps.{bytes_from, all-bytes, none_left, left-bytes, left-length}
 use Rattle.record.specs.Writing.{call_bytes}
@@ -13,66 +13,70 @@ use Rattle.record.proofs.WrittenLaws.{Wrote, wrote_then, wrote-length}
 use Rattle.space.proofs.Lengths.{typed}
 use Rattle.space.proofs.SpaceRules.{formed-sound, formed-few}
 use Rattle.tuple.specs.declared.field.Call.{Call}
-use Rattle.tuple.specs.Bounds.{capacity}
 use Rattle.tuple.specs.Faults.{call_fault}
-use Rattle.dump.proofs.writing.put_records.Goals.{After-put_record-place, In-loop-i}
+use Rattle.dump.proofs.writing.put_records.Goals.{After-call_of, After-put_record-place}
 use Rattle.dump.proofs.writing.put_records.Goals as goal
 
-pub loop-i-init : goal.loop-i-init
-loop-i-init c =
+pub shared_ref_as_front-tuple-items : goal.shared_ref_as_front-tuple-items
+shared_ref_as_front-tuple-items c = formed-few c.args.space c.requires.dumpable.formed
+
+pub loop-tuple-init : goal.loop-tuple-init
+loop-tuple-init c =
     let a = c.args in
-    (omega arith, ap (sets a.buffer.now a.at) (all-bytes a.space), omega (arith, ap length (all-bytes a.space)), refl)
-
--- a turn's place is one of a tuple held
-inside : (c : In-loop-i) → c.loop-i.i < capacity
-inside c = omega (arith, c.loop-i-test.true, formed-few c.args.space c.requires.dumpable.formed)
-
-pub offset_bounds-space-i : goal.offset_bounds-space-i
-offset_bounds-space-i c = omega (arith, inside (goal.at.offset_bounds-space-i c).In-loop-i)
-
-pub bounds-space-i : goal.bounds-space-i
-bounds-space-i c = inside (goal.at.bounds-space-i c).In-loop-i
+    (ap (sets a.buffer.now a.at) (all-bytes a.space), omega (arith, ap length (all-bytes a.space)), refl)
 
 pub call_of-requires : goal.call_of-requires
 call_of-requires c = formed-sound c.args.space c.requires.dumpable.formed
 
 -- the records left in a turn
-left : (c : In-loop-i) → let space = c.args.space in
-    (bytes_from space c.loop-i.i ≡ call_bytes (call_at space c.loop-i.i) ++ bytes_from space (c.loop-i.i + 1))
-    × (length (bytes_from space c.loop-i.i) ≡ length (call_bytes (call_at space c.loop-i.i)) + length (bytes_from space (c.loop-i.i + 1)))
+left : (c : After-call_of) → let space = c.args.space in let i = c.loop-tuple.tuple-index in
+    (bytes_from space i ≡ call_bytes (call_at space i) ++ bytes_from space (i + 1))
+    × (length (bytes_from space i) ≡ length (call_bytes (call_at space i)) + length (bytes_from space (i + 1)))
 left c =
-    (left-bytes c.args.space (typed c.args.space _ c.well_formed.1.1.0) c.requires.dumpable c.loop-i.i c.loop-i-test.true, left-length c.args.space (typed c.args.space _ c.well_formed.1.1.0) c.requires.dumpable c.loop-i.i c.loop-i-test.true)
+    let space = c.args.space in
+    let i = c.loop-tuple.tuple-index in
+    let whole = typed space _ c.well_formed.1.1.0 in
+    let below = held-below space i c.loop-tuple-test.true in
+    (left-bytes space whole c.requires.dumpable i below, left-length space whole c.requires.dumpable i below)
 
 pub put_record-place-requires : goal.put_record-place-requires
 put_record-place-requires c =
-    let call = c.call_of.ensures in record { call_value = ap call_fault call ∙ call-faultless c.args.space (typed c.args.space _ c.well_formed.1.1.0) c.requires.dumpable c.loop-i.i c.loop-i-test.true; call_in_bounds = omega (arith, ap (λ (call : Call). length (call_bytes call)) call, (left (goal.at.put_record-place-requires c).In-loop-i).1, c.loop-i.invariant.2, c.loop-i.invariant.3, c.requires.space_in_bounds) }
-
-pub overflow_add-i : goal.overflow_add-i
-overflow_add-i c = omega (arith, inside (goal.at.overflow_add-i c).In-loop-i)
+    let space = c.args.space in
+    let i = c.loop-tuple.tuple-index in
+    let there = (goal.at.put_record-place-requires c).After-call_of in
+    record {
+      call_value = ap call_fault (held-call space i _ c.call_of.ensures c.loop-tuple-test.true) ∙ call-faultless space (typed space _ c.well_formed.1.1.0) c.requires.dumpable i (held-below space i c.loop-tuple-test.true);
+      call_in_bounds = omega (arith, ap (λ (call : Call). length (call_bytes call)) (held-call space i _ c.call_of.ensures c.loop-tuple-test.true), (left there).1, c.loop-tuple.invariant.1, c.loop-tuple.invariant.2, c.requires.space_in_bounds);
+    }
 
 -- the record was written behind those before it
-wrote : (c : After-put_record-place) → Wrote c.loop-i.buffer c.loop-i.place (call_bytes (call_at c.args.space c.loop-i.i)) c.put_record-place.result c.put_record-place.new.buffer
+wrote : (c : After-put_record-place)
+    → Wrote c.loop-tuple.buffer c.loop-tuple.place (call_bytes (call_at c.args.space c.loop-tuple.tuple-index)) c.put_record-place.result c.put_record-place.new.buffer
 wrote c =
-    let made : Wrote c.loop-i.buffer c.loop-i.place (call_bytes c.call_of.result) c.put_record-place.result c.put_record-place.new.buffer =
+    let made : Wrote c.loop-tuple.buffer c.loop-tuple.place (call_bytes c.call_of.result) c.put_record-place.result c.put_record-place.new.buffer =
     (c.put_record-place.ensures.value, c.put_record-place.ensures.buffer_after) in
-    rw c.call_of.ensures at made
+    subst (λ (call : Call). Wrote c.loop-tuple.buffer c.loop-tuple.place (call_bytes call) c.put_record-place.result c.put_record-place.new.buffer) (held-call c.args.space c.loop-tuple.tuple-index _ c.call_of.ensures c.loop-tuple-test.true) made
 
-pub loop-i-preserved : goal.loop-i-preserved
-loop-i-preserved c =
+pub loop-tuple-preserved : goal.loop-tuple-preserved
+loop-tuple-preserved c =
     let space = c.args.space in
-    let bytes = call_bytes (call_at space c.loop-i.i) in (
-      omega arith,
-      (wrote_then c.loop-i.buffer c.loop-i.place bytes (bytes_from space (c.loop-i.i + 1)) (wrote (goal.at.loop-i-preserved c).After-put_record-place) (refl, refl)).1
-          ∙ ap (sets c.loop-i.buffer c.loop-i.place) (sym (left (goal.at.loop-i-preserved c).In-loop-i).0)
-          ∙ c.loop-i.invariant.1,
-      omega (arith, (left (goal.at.loop-i-preserved c).In-loop-i).1, (wrote (goal.at.loop-i-preserved c).After-put_record-place).0, c.loop-i.invariant.2),
-      wrote-length c.loop-i.buffer c.loop-i.place bytes (wrote (goal.at.loop-i-preserved c).After-put_record-place) ∙ c.loop-i.invariant.3,
+    let i = c.loop-tuple.tuple-index in
+    let buffer = c.loop-tuple.buffer in
+    let place = c.loop-tuple.place in
+    let bytes = call_bytes (call_at space i) in
+    let done = wrote (goal.at.loop-tuple-preserved c).After-put_record-place in
+    let rest = left (goal.at.loop-tuple-preserved c).After-call_of in (
+      (wrote_then buffer place bytes (bytes_from space (i + 1)) done (refl, refl)).1 ∙ ap (sets buffer place) (sym rest.0) ∙ c.loop-tuple.invariant.0,
+      omega (arith, rest.1, done.0, c.loop-tuple.invariant.1),
+      wrote-length buffer place bytes done ∙ c.loop-tuple.invariant.2,
     )
 
 pub shape_of-buffer : goal.shape_of-buffer
-shape_of-buffer c = c.loop-i.invariant.3
+shape_of-buffer c = c.loop-tuple.invariant.2
 
 pub returns : goal.returns
 returns c =
-    let none = none_left c.args.space c.loop-i.i c.loop-i-test.false in
-    record { value = omega (arith, ap length none, c.loop-i.invariant.2); buffer_after = sym (ap (sets c.loop-i.buffer c.loop-i.place) none) ∙ c.loop-i.invariant.1 }
+    let space = c.args.space in
+    let i = c.loop-tuple.tuple-index in
+    let none = none_left space i (held-past space i c.requires.dumpable.formed (typed space _ c.well_formed.1.1.0) c.loop-tuple-test.false) in
+    record { value = omega (arith, ap length none, c.loop-tuple.invariant.1); buffer_after = sym (ap (sets c.loop-tuple.buffer c.loop-tuple.place) none) ∙ c.loop-tuple.invariant.0 }

@@ -6,7 +6,7 @@ use Rattle.monitor.proofs.records.watch_records.Given as goal
 
 abbrev pub invariant-loop-cursor : goal.invariant-loop-cursor
 invariant-loop-cursor l =
-    Watching l.bytes l.config l.set l.initial.cursor.at l.cursor.at l.number l.space l.watches
+    Watching l.bytes l.config l.set l.initial.cursor l.cursor.at l.number l.space l.watches
 
 abbrev pub decreases-loop-cursor : goal.decreases-loop-cursor
 decreases-loop-cursor l = length l.bytes - l.cursor.at

@@ -1,5 +1,5 @@
 -- `record::writer::call_width` meets its contract: the widths of the process, the code, the template and the entry.
-use mathlib.Core.Path.{◌≡◌, sym, ap, ◌∙◌}
+use mathlib.Core.Path.{◌≡◌, ap, ◌∙◌}
 use Prim.Native.Nat.{◌≤◌}
 use native.Mathlib.Omega.{arith}
 use mathlib.Core.Bool.{Bool}
@@ -7,8 +7,9 @@ use lib.ListN.{length, length-append}
 use Rattle.record.specs.Writing.{part_bytes, call_bytes}
 use Rattle.record.proofs.WrittenLaws.{part_length}
 use Rattle.tuple.specs.Faults.{uses_template, uses_entry}
+use Rattle.varint.specs.Writing.{width_of}
 use Rattle.varint.proofs.WritingLaws.{width-most}
-use Rattle.record.proofs.writer.call_width.Goals.{After-part_width-first, After-part_width-second}
+use Rattle.record.proofs.writer.call_width.Goals.{After-width-2, After-part_width-first, After-part_width-second}
 use Rattle.record.proofs.writer.call_width.Goals as goal
 
 -- what each width is
@@ -33,27 +34,20 @@ parts c =
       omega (arith, entry c, part_length (uses_entry call.code) call.entry c.requires.entry),
     )
 
-numbers : (c : After-part_width-second) → (c.width.result ≤ 10) × (c.width-2.result ≤ 10)
-numbers c =
-    let call = c.args.call in
-    (omega (arith, c.width.ensures, width-most call.process), omega (arith, c.width-2.ensures, width-most call.code))
+-- the widths of the two numbers
+numbers : (c : After-width-2) → let call = c.args.call in (c.width.result ≡ width_of call.process) × (c.width-2.result ≡ width_of call.code)
+numbers c = (c.width.ensures ∙ ap width_of c.from.ensures, c.width-2.ensures ∙ ap width_of c.from-2.ensures)
 
 pub overflow_add-numbers : goal.overflow_add-numbers
-overflow_add-numbers c = omega (arith, width-most c.args.call.process, width-most c.args.call.code, c.width.ensures, c.width-2.ensures)
-
-pub part_width-first-requires : goal.part_width-first-requires
-part_width-first-requires c = λ used. c.requires.template (sym c.uses_template.ensures ∙ used)
-
-pub part_width-second-requires : goal.part_width-second-requires
-part_width-second-requires c = λ used. c.requires.entry (sym c.uses_entry.ensures ∙ used)
+overflow_add-numbers c = omega (arith, numbers c, width-most c.args.call.process, width-most c.args.call.code)
 
 pub overflow_add-result : goal.overflow_add-result
-overflow_add-result c = omega (arith, numbers c, parts c)
+overflow_add-result c = omega (arith, numbers (goal.at.overflow_add-result c).After-width-2, width-most c.args.call.process, width-most c.args.call.code, parts c)
 
 pub overflow_add-result-2 : goal.overflow_add-result-2
-overflow_add-result-2 c = omega (arith, numbers c, parts c)
+overflow_add-result-2 c = omega (arith, numbers (goal.at.overflow_add-result-2 c).After-width-2, width-most c.args.call.process, width-most c.args.call.code, parts c)
 
 pub returns : goal.returns
 unfolding call_bytes
 returns c =
-    simp length-append (omega (arith, c.width.ensures, c.width-2.ensures, template (goal.at.returns c).After-part_width-first, entry c))
+    simp length-append (omega (arith, numbers (goal.at.returns c).After-width-2, template (goal.at.returns c).After-part_width-first, entry c))

@@ -9,9 +9,6 @@ use Rattle.varint.specs.Writing.{width_of}
 use Rattle.varint.proofs.WritingLaws.{width-most}
 use Rattle.record.proofs.writer.field_width.Goals as goal
 
-pub head_number-requires : goal.head_number-requires
-head_number-requires c = c.requires
-
 pub overflow_add-result : goal.overflow_add-result
 overflow_add-result c =
     omega (arith, width-most (head_number c.args.field), width-most c.args.field.value, ap width_of c.head_number.ensures.value)

@@ -6,36 +6,30 @@ use mathlib.Core.List.{List}
 use lib.ListN.{length, length-append}
 use borrow.Author.Tests.{eq-eqb, ne_eqb}
 use Rattle.record.specs.Heads.{head_number}
-use Rattle.record.proofs.WrittenLaws.{Wrote, wrote_then, wrote-length, bytes-defined, bytes-bare, head-room}
+use Rattle.record.proofs.WrittenLaws.{Wrote, wrote_then, wrote_as, wrote-length, bytes-defined, bytes-bare, head-room}
 use Rattle.varint.specs.Writing.{bytes_of, width_of}
 use Rattle.record.proofs.writer.put_field.Goals.{After-put_number-place}
 use Rattle.record.proofs.writer.put_field.Goals as goal
 
 -- the head was written
 head : (c : After-put_number-place) → Wrote c.args.buffer.now c.args.at (bytes_of (head_number c.args.field)) c.put_number-place.result c.put_number-place.new.buffer
-head c =
-    subst (λ (h : ℕ). Wrote c.args.buffer.now c.args.at (bytes_of h) c.put_number-place.result c.put_number-place.new.buffer) c.head_number.ensures.value (c.put_number-place.ensures.value, c.put_number-place.ensures.buffer_after)
+head c = wrote_as c.args.buffer.now c.args.at c.head_number.ensures.value (c.put_number-place.ensures.value, c.put_number-place.ensures.buffer_after)
 
-pub head_number-requires : goal.head_number-requires
-head_number-requires c = c.requires.writable_field
+pub put_number-place-requires-clause-value_in_bounds : goal.put_number-place-requires-clause-value_in_bounds
+put_number-place-requires-clause-value_in_bounds c =
+    omega (arith, ap width_of c.head_number.ensures.value, head-room c.args.field, c.requires.field_in_bounds)
 
-pub put_number-place-requires : goal.put_number-place-requires
-put_number-place-requires c =
-    let a = c.args in record { value_le_largest = c.head_number.ensures.upper_bound; value_in_bounds = omega (arith, ap width_of c.head_number.ensures.value, head-room a.field, c.requires.field_in_bounds) }
-
-pub put_number-requires : goal.put_number-requires
-put_number-requires c =
-    let d = eq-eqb c.args.field.state 0 c.if-field-eq-DEFINED.true in record {
-      value_le_largest = c.requires.writable_field.value d;
-      value_in_bounds = omega (
-        arith,
-        ap length (sym (bytes-defined c.args.field d)),
-        length-append (bytes_of (head_number c.args.field)) (bytes_of c.args.field.value),
-        (head (goal.at.put_number-requires c).After-put_number-place).0,
-        wrote-length c.args.buffer.now c.args.at (bytes_of (head_number c.args.field)) (head (goal.at.put_number-requires c).After-put_number-place),
-        c.requires.field_in_bounds,
-      );
-    }
+pub put_number-requires-clause-value_in_bounds : goal.put_number-requires-clause-value_in_bounds
+put_number-requires-clause-value_in_bounds c =
+    let written = head (goal.at.put_number-requires-clause-value_in_bounds c).After-put_number-place in
+    omega (
+      arith,
+      ap length (sym (bytes-defined c.args.field (eq-eqb c.args.field.state 0 c.if-field-eq-DEFINED.true))),
+      length-append (bytes_of (head_number c.args.field)) (bytes_of c.args.field.value),
+      written.0,
+      wrote-length c.args.buffer.now c.args.at (bytes_of (head_number c.args.field)) written,
+      c.requires.field_in_bounds,
+    )
 
 pub returns-then-field-eq-DEFINED : goal.returns-then-field-eq-DEFINED
 returns-then-field-eq-DEFINED c =

@@ -1,9 +1,16 @@
--- `space::enter` meets its contract: a place that is looked up is below 248 exactly if the tuple belongs in the table.
-use Rattle.space.proofs.TableLaws.{enters, enters_none}
+-- `space::enter` meets its contract: the place of a tuple that belongs in the table is below 248.
+use native.Mathlib.Omega.{arith}
+use Rattle.space.proofs.TableLaws.{entry-below, enters, enters_none}
 use Rattle.space.proofs.table.enter.Goals as goal
 
-pub returns-then-place-lt-PLACES : goal.returns-then-place-lt-PLACES
-returns-then-place-lt-PLACES c = enters _ _ _ _ c.place_for-place.ensures c.if-place-lt-PLACES.true
+pub offset_bounds-table-place : goal.offset_bounds-table-place
+offset_bounds-table-place c = omega (arith, entry-below c.args.config c.args.table.now c.args.tuple _ c.in-Some.ensures)
 
-pub returns-else-place-lt-PLACES : goal.returns-else-place-lt-PLACES
-returns-else-place-lt-PLACES c = enters_none _ _ _ _ c.place_for-place.ensures c.if-place-lt-PLACES.false
+pub bounds-table-place : goal.bounds-table-place
+bounds-table-place c = entry-below c.args.config c.args.table.now c.args.tuple _ c.in-Some.ensures
+
+pub returns-in-Some : goal.returns-in-Some
+returns-in-Some c = enters _ _ _ _ c.in-Some.ensures
+
+pub returns-in_default : goal.returns-in_default
+returns-in_default c = enters_none _ _ _ c.in_default.ensures

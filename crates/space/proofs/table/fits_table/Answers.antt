@@ -1,16 +1,21 @@
 -- `space::table::fits_table` meets its contract: its tests are the definition's.
 use mathlib.Core.Path.{sym, ◌∙◌}
-use borrow.Author.Tests.{not-true, not-false}
-use Rattle.space.proofs.TableLaws.{fits_out, fits-never, fits-free}
+use native.Mathlib.Omega.{arith}
+use Rattle.space.proofs.TableLaws.{entry-below, fits_found, fits_none}
 use Rattle.space.proofs.table.fits_table.Goals as goal
 
-pub returns-then-place-ge-PLACES : goal.returns-then-place-ge-PLACES
-returns-then-place-ge-PLACES c = fits_out _ _ _ _ c.place_for-place.ensures c.if-place-ge-PLACES.true
+pub offset_bounds-table-place : goal.offset_bounds-table-place
+offset_bounds-table-place c = omega (arith, entry-below c.args.config c.args.table.now c.args.tuple _ c.in-Some.ensures)
 
-pub returns-then-not-offered : goal.returns-then-not-offered
-returns-then-not-offered c =
-    fits-never _ _ _ _ c.place_for-place.ensures c.if-place-ge-PLACES.false (sym c.offered.ensures ∙ not-true _ c.if-not-offered.true-raw)
+pub bounds-table-place : goal.bounds-table-place
+bounds-table-place c = entry-below c.args.config c.args.table.now c.args.tuple _ c.in-Some.ensures
 
-pub returns : goal.returns
-returns c =
-    fits-free _ _ _ _ c.place_for-place.ensures c.if-place-ge-PLACES.false (sym c.offered.ensures ∙ not-false _ c.if-not-offered.false-raw)
+pub returns-then-offered : goal.returns-then-offered
+returns-then-offered c = rw (sym c.offered.ensures ∙ c.if-offered.true) at (fits_found c.args.config c.args.table.now c.args.tuple _ c.in-Some.ensures)
+
+pub returns-else-offered : goal.returns-else-offered
+returns-else-offered c =
+    c.if-offered.false ∙ rw (sym c.offered.ensures ∙ c.if-offered.false) at (fits_found c.args.config c.args.table.now c.args.tuple _ c.in-Some.ensures)
+
+pub returns-in-None : goal.returns-in-None
+returns-in-None c = fits_none _ _ _ c.in-None.ensures

@@ -1,18 +1,23 @@
 -- `tuple::fault::is_given` meets its contract: below and above the known heads there is a fault, and between them the value decides.
-use mathlib.Core.Path.{sym, ap, ◌∙◌}
+use mathlib.Core.Path.{◌≡◌, ◌∙◌}
+use mathlib.Core.Bool.{◌&&◌}
 use native.Mathlib.Omega.{arith}
 use lib.Dec.{leb}
-use Rattle.tuple.proofs.PlaceLaws.{given-low, given-high, given-within}
+use Rattle.std.proofs.lemmas.Grind.{common_steps}
+use Rattle.tuple.specs.Fields.{word, process_set, largest_of}
+use Rattle.tuple.proofs.PlaceLaws.{given}
 use Rattle.tuple.proofs.fault.is_given.Goals as goal
 
-pub returns-then-number : goal.returns-then-number
-returns-then-number c = sym (given-low c.args.field (omega (arith, c.head-number.ensures, c.if-number.true)))
-
-pub returns-then-number-2 : goal.returns-then-number-2
-returns-then-number-2 c = sym (given-high c.args.field (omega (arith, c.head-number.ensures, c.if-number-2.true)))
-
-pub returns : goal.returns
-returns c =
+pub returns-then-number-from : goal.returns-then-number-from
+returns-then-number-from c =
     let f = c.args.field in
-    ap (leb f.value) c.largest.ensures
-    ∙ sym (given-within f (omega (arith, c.head-number.ensures, c.if-number.false)) (omega (arith, c.head-number.ensures, c.if-number-2.false)))
+    let n = c.head-number.result in
+    let tests : leb f.value c.largest.result ≡ (leb word n && leb n process_set && leb f.value (largest_of f.kind)) = grind (arith, common_steps) in
+    tests ∙ given f n c.head-number.ensures
+
+pub returns-else-number-from : goal.returns-else-number-from
+returns-else-number-from c =
+    let f = c.args.field in
+    let n = c.head-number.result in
+    let tests : c.if-from-number.value ≡ (leb word n && leb n process_set && leb f.value (largest_of f.kind)) = grind (arith, common_steps) in
+    tests ∙ given f n c.head-number.ensures

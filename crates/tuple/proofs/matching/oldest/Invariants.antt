@@ -1,16 +1,14 @@
--- `tuple::oldest` meets its contract. Invariants: no tuple passed matches, and the fields passed of the present tuple match, so that what is left decides.
-use Prim.Native.Nat.{◌-◌, ◌≤◌}
-use Rattle.tuple.proofs.MatchingLaws.{Left, Passed}
+-- `tuple::oldest` meets its contract. Invariants: no tuple passed matches, and the fields passed of the present tuple match.
+use mathlib.Core.Path.{◌≡◌}
+use mathlib.Core.Bool.{true, false}
+use Prim.Native.Nat.{ℕ, ◌<◌}
+use lib.ListN.{get_or}
+use Rattle.tuple.specs.Fields.{blank_field, blank_tuple}
+use Rattle.tuple.specs.Matching.{field_matches, matches}
 use Rattle.tuple.proofs.matching.oldest.Given as goal
 
-abbrev pub invariant-loop-j : goal.invariant-loop-j
-invariant-loop-j l = (l.j ≤ l.places) × Left l.template l.tuple l.j
-
-abbrev pub decreases-loop-j : goal.decreases-loop-j
-decreases-loop-j l = l.places - l.j
-
 abbrev pub invariant-tuples : goal.invariant-tuples
-invariant-tuples l = (l.i ≤ l.held) × Passed l.count l.tuples l.template l.i
+invariant-tuples l = (k : ℕ) → k < l.at → matches l.fn.template (get_or l.tuples k blank_tuple) ≡ false
 
-abbrev pub decreases-tuples : goal.decreases-tuples
-decreases-tuples l = l.held - l.i
+abbrev pub invariant-loop-i : goal.invariant-loop-i
+invariant-loop-i l = (k : ℕ) → k < l.i → field_matches (get_or l.asked k blank_field) (get_or l.given k blank_field) ≡ true

@@ -1,18 +1,19 @@
--- `tuple::shape::has_shape` meets its contract: its tests are the definition's.
-use mathlib.Core.Path.{◌≡◌, ap, ◌∙◌}
-use mathlib.Core.Bool.{Bool}
-use Rattle.tuple.specs.declared.field.Field.{Field}
-use Rattle.tuple.specs.declared.shape.Place.{Place}
-use Rattle.tuple.specs.Shapes.{field, and_fills, has_shape}
+-- `tuple::has_shape` meets its contract: the count, the word, the second field, and each place of the shape.
+use mathlib.Core.Path.{◌≡◌, ◌∙◌}
+use mathlib.Core.Bool.{true, ◌&&◌}
+use native.Mathlib.Omega.{arith}
+use lib.Dec.{eqb}
+use Rattle.std.proofs.lemmas.Grind.{common_steps}
+use Rattle.tuple.specs.Fields.{word, count, defined}
+use Rattle.tuple.specs.Shapes.{field, is, says, and_fills}
+use Rattle.tuple.proofs.ShapeLaws.{shape-tests}
 use Rattle.tuple.proofs.shape.has_shape.Goals as goal
 
-joined : (place : Place) (f : Field) {a b : Bool} → a ≡ b → and_fills a place f ≡ and_fills b place f
-joined place f e = ap (λ (test : Bool). and_fills test place f) e
-
-pub returns : goal.returns
-unfolding has_shape
-returns c =
-    let a = c.args in
-    let begun = rw (c.says.ensures, c.is.ensures) at c.all_three-begun.ensures in
-    let three = c.and_fills-three.ensures ∙ joined a.shape.third (field a.tuple 2) begun in
-    c.and_fills.ensures ∙ joined a.shape.fifth (field a.tuple 4) (c.and_fills-four.ensures ∙ joined a.shape.fourth (field a.tuple 3) three)
+pub returns-else-asks-2 : goal.returns-else-asks-2
+returns-else-asks-2 c =
+    let s = c.args.shape in
+    let t = c.args.tuple in
+    let tests : c.if-asks.value
+    ≡ (eqb t.count s.count && says word s.word (field t 0) && is count defined (field t 1) && and_fills true s.third (field t 2) && and_fills true s.fourth (field t 3) && and_fills true s.fifth (field t 4)) =
+    grind (arith, common_steps) in
+    tests ∙ shape-tests s t

@@ -1,11 +1,7 @@
--- `record::Cursor::tuple` meets its contract: the count, then the loop, whose invariant says that the fields read and those left give the whole.
-use mathlib.Core.Path.{◌≡◌}
-use Prim.Native.Nat.{◌-◌}
+-- `record::Cursor::tuple` meets its contract. The loop's invariant: the fields read and those left give the whole.
+use Rattle.record.specs.Reading.{tuple_at}
 use Rattle.record.proofs.FieldsLaws.{Passed}
 use Rattle.record.proofs.reader.Cursor.tuple.Given as goal
 
 abbrev pub invariant-loop-i : goal.invariant-loop-i
-invariant-loop-i l = (l.tuple.count ≡ l.count) × Passed l.entry l.s l.count l.initial.cursor.at l.tuple.fields l.cursor.at l.i
-
-abbrev pub decreases-loop-i : goal.decreases-loop-i
-decreases-loop-i l = l.count - l.i
+invariant-loop-i l = Passed l.entry l.s l.count (tuple_at l.entry l.s l.fn.self.at) l.tuple l.cursor.at l.i

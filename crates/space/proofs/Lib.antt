@@ -2,6 +2,7 @@ pub mod AnnouncementLaws
 pub mod CodeLaws
 pub mod ConfigLaws
 pub mod FormedLaws
+pub mod FreshLaws
 pub mod Lengths
 pub mod ListLaws
 pub mod MemberLaws

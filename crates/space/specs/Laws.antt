@@ -1,15 +1,15 @@
 -- The laws of configurations, sets, proposals and spaces, as claims over the definitions, in the words of documents 01 and 02.
-use Rattle.std.specs.Prelude.{None, Some, ◌≡◌, ◌↔◌, ◌⊎◌, Bool, true, false, List, ℕ, ◌+◌, ◌*◌, ◌≤◌, ◌<◌, pos, get_or}
+use Rattle.std.specs.Prelude.{None, Some, Ok, Err, ◌≡◌, ◌↔◌, ◌⊎◌, Bool, true, false, List, [], ℕ, ◌+◌, ◌*◌, ◌≤◌, ◌<◌, pos, get_or}
 use Rattle.std.specs.Int.Count.{ones}
 use Rattle.space.specs.declared.config.Config.{Config}
 use Rattle.space.specs.declared.proposal.Sought.TheVariants as sought
 use Rattle.space.specs.declared.space.Space.{Space}
 use Rattle.space.specs.Announcements.{is_announcement, announcer_of, announced_serial, announced_code, announced_of, Announcing, Oldest}
-use Rattle.space.specs.Configs.{sound, has_proposals, has_list}
+use Rattle.space.specs.Configs.{sound, has_proposals, has_list, blank_config}
 use Rattle.space.specs.Lists.{listed_process, is_list_tuple, position_of, serial_of, shift_code, is_filled, is_listed, Filled, Listed}
 use Rattle.space.specs.Members.{Member, within, every, counted}
 use Rattle.space.specs.Proposals.{offered, decidable, proposed, backers, crowded, Placed, Proposed}
-use Rattle.space.specs.Spaces.{well_formed, Typed, Tidy}
+use Rattle.space.specs.Spaces.{well_formed, space_of, fresh_of, fresh_space, Typed, Tidy}
 use Rattle.space.specs.TableLaws.{Tabled}
 use Rattle.tuple.specs.declared.field.Tuple.{Tuple}
 use Rattle.tuple.specs.declared.offset.Offset.{Offset}
@@ -17,6 +17,7 @@ use Rattle.tuple.specs.declared.offset.Offset.TheVariants.{Bottom, Hundredths}
 use Rattle.tuple.specs.Faults.{is_entry}
 use Rattle.tuple.specs.Fields.{blank_tuple}
 use Rattle.tuple.specs.Offsets.{in_range, code_of}
+use Rattle.tuple.specs.Refusals.{refusal}
 use Rattle.tuple.specs.Shapes.{field}
 
 -- ---- configurations
@@ -151,6 +152,23 @@ pub record AnnouncedRule (tuples : List Tuple) (process : ℕ) : Type 0 where
 
 abbrev pub AnnouncedRules : Type 0
 AnnouncedRules = (tuples : List Tuple) (process : ℕ) → AnnouncedRule tuples process
+
+-- ---- a fresh space
+
+-- the configuration that stands beside a refusal, in numbers
+abbrev pub BlankConfig : Type 0
+BlankConfig = blank_config ≡ record { n = 0; t = 0; policy = 0; k = 0 }
+
+-- the space that lists of calls begin with is the fresh one of a sound configuration, and holds nothing; every other configuration is refused 1, and the space
+-- that stands beside that is blank
+pub record FreshRule (config : Config) : Type 0 where
+  pub stands : sound config ≡ true → fresh_of config ≡ Ok (fresh_space config)
+  pub empty : sound config ≡ true → fresh_space config ≡ space_of config []
+  pub refused : sound config ≡ false → fresh_of config ≡ Err (refusal 1)
+  pub beside : sound config ≡ false → fresh_space config ≡ space_of blank_config []
+
+abbrev pub FreshRules : Type 0
+FreshRules = (config : Config) → FreshRule config
 
 -- ---- spaces
 

@@ -30,12 +30,22 @@ pub extern "C" fn board_script(bytes: &[u8], buffer: &mut [u8]) -> u64
     length_number(script::print(bytes, buffer))
 }
 
-// A fresh space, or refusal 1 beside the blank one.
+// A fresh space, or refusal 1 beside the blank one. Either is made where it stands: a space that is taken out of a `Result` is copied once more.
 #[unsafe(no_mangle)]
+#[tactic(auto, unfolding(space::specs::Spaces::fresh_of))]
 pub extern "C" fn board_fresh(config: Config) -> FlatOpened
     ensures { result ≡ opened config }
 {
-    FlatOpened::from(space::fresh(config))
+    match space::fresh(config) {
+        Ok(_) => FlatOpened {
+            refusal: 0,
+            space: Space::empty(config),
+        },
+        Err(refusal) => FlatOpened {
+            refusal: u64::from(refusal.number()),
+            space: Space::empty(Config::blank()),
+        },
+    }
 }
 
 // A call on a space: the reply, and the space afterwards.

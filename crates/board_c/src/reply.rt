@@ -1,11 +1,11 @@
 // Replies, and what opening a space, a call on it and reading a record answer, with numbers in place of enums.
 ghost use Rattle.std.specs.Prelude.{◌≡◌};
-ghost use Rattle.board_c.specs.Flat.{flat_reply, flat_opened, flat_applied, flat_read, reply_of};
+ghost use Rattle.board_c.specs.Flat.{flat_reply, flat_applied, flat_read, reply_of};
 ghost use Rattle.tuple.specs.Refusals.{refusal as refusal·};
 
 use calls::Applied;
 use record::ReadCall;
-use space::{Config, Space};
+use space::Space;
 use tuple::{Call, Outcome, Refusal, Reply, Tuple};
 
 // A reply: the outcome's number (0 done, 1 none, 2 found, 3 inserted, 4 held, 5 refused), the refusal's number, 0 where there is none,
@@ -41,20 +41,6 @@ pub struct FlatRead {
     pub refusal: u64,
     pub next: usize,
     pub call: Call,
-}
-
-impl From<Result<Space, Refusal>> for FlatOpened {
-    ghost from_gives = { λ opened flat. flat ≡ flat_opened opened };
-
-    fn from(opened: Result<Space, Refusal>) -> FlatOpened {
-        match opened {
-            Ok(space) => FlatOpened { refusal: 0, space },
-            Err(refusal) => FlatOpened {
-                refusal: u64::from(refusal.number()),
-                space: Space::empty(Config::blank()),
-            },
-        }
-    }
 }
 
 impl From<Applied> for FlatApplied {

@@ -42,6 +42,12 @@ unfolding counted
 counted_none test zero k = refl
 counted_none test (suc n) k = ap (λ (m : ℕ). 0 + m) (counted_none test n (k + 1))
 
+-- a member counts for one at most
+pub counted-most : (out passes : Bool) → cond out 0 (cond passes 1 0) ≤ 1
+counted-most true passes = omega arith
+counted-most false true = omega arith
+counted-most false false = omega arith
+
 -- those below k are passed, and the lowest bit of `rest` is that of k
 module _ (test : ℕ → Bool) (n k rest : ℕ) where
   -- nobody is left

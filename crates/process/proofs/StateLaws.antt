@@ -11,7 +11,7 @@ use lib.Seq.{get_or-set_same, get_or-set_other, set-set, set-get_or, ext_get_or}
 use borrow.Author.Tests.{eqb-true, eqb-false, eq-eqb, leb-true, leb-false, le-leb, not-true}
 use borrow.Table.Steps.{cases}
 use Rattle.process.specs.declared.process.Process.{Process}
-use Rattle.process.specs.Laws.{StartableRule}
+use Rattle.process.specs.Laws.{BlankStateRule, StartableRule}
 use Rattle.process.specs.States.{none_found, startable, code_sound, found_sound, last_ends, reading_sound, deciding_sound, phase_sound, well_formed}
 use Rattle.process.specs.Tallies.{found_of, backs, backing, settled}
 use Rattle.process.proofs.TallyLaws.{reading-ends, settled-rule, backing-part}
@@ -22,6 +22,11 @@ use Rattle.space.specs.Proposals.{offered}
 use Rattle.space.specs.Shapes.{in_rounds}
 use Rattle.space.proofs.ConfigLaws.{sound-range, proposals-rule}
 use Rattle.tuple.specs.Offsets.{bottom}
+
+-- ---- the blank state
+
+pub blank-state-rule : BlankStateRule
+blank-state-rule = refl
 
 -- ---- the parts of a well-formed state
 

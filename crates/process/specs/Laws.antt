@@ -9,7 +9,7 @@ use Rattle.process.specs.Asks.{rdp_call, cas_call}
 use Rattle.process.specs.Fits.{fits}
 use Rattle.process.specs.Procedure.{started, advanced, resumed}
 use Rattle.process.specs.Reachable.{Reachable}
-use Rattle.process.specs.States.{startable, found_sound, well_formed}
+use Rattle.process.specs.States.{blank_process, startable, found_sound, well_formed}
 use Rattle.process.specs.Tallies.{backing, backing_set, backed, settled, total, next_after}
 use Rattle.space.specs.declared.config.Config.{Config}
 use Rattle.space.specs.Configs.{sound}
@@ -33,6 +33,13 @@ use Rattle.tuple.specs.Shapes.{field}
 -- of 31 processes none is found
 abbrev pub found_zeros : List ℕ
 found_zeros = 0 ∷ 0 ∷ 0 ∷ 0 ∷ 0 ∷ 0 ∷ 0 ∷ 0 ∷ 0 ∷ 0 ∷ 0 ∷ 0 ∷ 0 ∷ 0 ∷ 0 ∷ 0 ∷ 0 ∷ 0 ∷ 0 ∷ 0 ∷ 0 ∷ 0 ∷ 0 ∷ 0 ∷ 0 ∷ 0 ∷ 0 ∷ 0 ∷ 0 ∷ 0 ∷ 0 ∷ []
+
+-- the state where none was started
+abbrev pub no_process : Process
+no_process = record { config = record { n = 0; t = 0; policy = 0; k = 0 }; process = 0; round = 0; phase = Proposing; found = found_zeros }
+
+abbrev pub BlankStateRule : Type 0
+BlankStateRule = blank_process ≡ no_process
 
 -- ---- states
 

@@ -5,6 +5,7 @@ use native.Mathlib.Omega.{arith}
 use mathlib.Core.Bool.{Bool, true, false, cond}
 use mathlib.Core.List.{List, [], ◌∷◌}
 use lib.ListN.{length, take, drop, get_or, length-drop, drop_of_length-le}
+use lib.Seq.{take_all}
 use borrow.Author.Tests.{eq-eqb, ne_eqb}
 use borrow.Table.Steps.{cases}
 use Rattle.std.specs.Prelude.{Option, None, Some, count_by, find, unwrap_or, option_map}
@@ -35,6 +36,9 @@ pub counts_backing : (value : ℕ) (found : List ℕ) → count_by (backs value)
 unfolding backing
 counts_backing value [] = refl
 counts_backing value (code ∷ found) = sum_by-cons (one value) code found ∙ ap (λ (k : ℕ). one value code + k) (counts_backing value found)
+
+pub counts_all : (value i : ℕ) (found : List ℕ) → length found ≤ i → count_by (backs value) (take i found) ≡ backing value found
+counts_all value i found all = ap (count_by (backs value)) (take_all i found all) ∙ counts_backing value found
 
 -- the set of the places from i on
 module _ (value : ℕ) (found : List ℕ) (i : ℕ) where

@@ -19,10 +19,15 @@ fn backs(value: u64, code: u64) -> bool
 }
 
 // How many of the found processes back a value.
+#[tactic(auto, using(crate::proofs::TallySteps::counts_all))]
 fn backing(found: [u64; PROCESSES], value: u64) -> u64
     ensures { result ≡ backing· value found }
 {
-    found.iter().filter(|code| backs(value, **code)).count() as u64
+    let mut total: u64 = 0;
+    for code in &found {
+        total += u64::from(backs(value, *code));
+    }
+    total
 }
 
 // All found processes that back a value, as a set.

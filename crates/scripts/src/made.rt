@@ -3,31 +3,37 @@ use crate::show::{end, text};
 use script::SCRIPT_BYTES;
 use std::io;
 
-// n, t and the policy
-const SET_UP: [u8; 3] = [1, 0, 0];
+const TOO_LONG: usize = SCRIPT_BYTES + 1;
 
 // The first record is all zeros, and can't be read.
-pub(crate) fn unread(rt: &(impl Print + AllocGlobal)) -> io::Result<()> {
-    let mut script = Vec::new(rt.alloc());
-    script.extend_from_slice(&SET_UP)?;
-    script.resize(SCRIPT_BYTES, 0)?;
+pub(crate) fn unread(rt: &impl Print) -> io::Result<()> {
+    let mut script = [0; TOO_LONG];
+    script[0] = 1;
     println!(rt; "65,536 bytes")?;
-    text(rt, &script)?;
-    script.push(0)?;
+    text(rt, &script[..SCRIPT_BYTES])?;
     println!(rt; "65,537 bytes")?;
     text(rt, &script)
 }
+
+// n, t and the policy
+const SET_UP: [u8; 3] = [1, 0, 0];
 
 // seat 1, rdp, one field, any word
 const RECORD: [u8; 4] = [1, 2, 1, 5];
 
 // Records to the end of 65,536 bytes, the last of them cut: the last two lines.
-pub(crate) fn full(rt: &(impl Print + AllocGlobal)) -> io::Result<()> {
-    let mut script = Vec::new(rt.alloc());
-    script.extend_from_slice(&SET_UP)?;
-    fill(&mut script, &RECORD, SCRIPT_BYTES)?;
+pub(crate) fn full(rt: &impl Print) -> io::Result<()> {
+    let mut script = [0; SCRIPT_BYTES];
+    put_records(&mut script);
     println!(rt; "65,536 bytes of records")?;
     end(rt, &script, 25)
+}
+
+fn put_records(script: &mut [u8]) {
+    let bytes = SET_UP.iter().chain(RECORD.iter().cycle());
+    for (place, byte) in script.iter_mut().zip(bytes) {
+        *place = *byte;
+    }
 }
 
 // n is 31, t is 10, and the policy is bare; seat 1, out, six fields
@@ -42,22 +48,24 @@ const ASKED: [u8; 9] = [1, 2, 6, 9, 9, 9, 9, 9, 9];
 // seat 0, rdp, one field, any word; then seat 1, a code that is unknown, and a byte more
 const CLOSING: [u8; 7] = [0, 2, 1, 5, 1, 9, 0];
 
+// How many bytes the six counts have, and what asks for them, over and over.
+const COUNTS_BYTES: usize = 6 * LARGEST_COUNT.len();
+
+const ASKED_BYTES: usize = SCRIPT_BYTES - OPENING.len() - COUNTS_BYTES - CLOSING.len();
+
 // The longest text that is known: a tuple of six counts of twenty digits, found 7,273 times. How long it is, and its last three lines.
-pub(crate) fn longest(rt: &(impl Print + AllocGlobal)) -> io::Result<()> {
-    let mut script = Vec::new(rt.alloc());
-    script.extend_from_slice(&OPENING)?;
-    for _ in 0..6 {
-        script.extend_from_slice(&LARGEST_COUNT)?;
-    }
-    fill(&mut script, &ASKED, SCRIPT_BYTES - CLOSING.len())?;
-    script.extend_from_slice(&CLOSING)?;
+pub(crate) fn longest(rt: &impl Print) -> io::Result<()> {
+    let mut script = [0; SCRIPT_BYTES];
+    put_counts(&mut script);
     println!(rt; "65,536 bytes of found counts")?;
     end(rt, &script, 39)
 }
 
-// Bytes, over and over, to the end of a script of this length.
-fn fill(script: &mut Vec<u8>, bytes: &[u8], length: usize) -> io::Result<()> {
-    let left = length.saturating_sub(script.len());
-    script.extend(bytes.iter().cycle().take(left).copied())?;
-    Ok(())
+fn put_counts(script: &mut [u8]) {
+    let counts = LARGEST_COUNT.iter().cycle().take(COUNTS_BYTES);
+    let asked = ASKED.iter().cycle().take(ASKED_BYTES);
+    let bytes = OPENING.iter().chain(counts).chain(asked).chain(&CLOSING);
+    for (place, byte) in script.iter_mut().zip(bytes) {
+        *place = *byte;
+    }
 }

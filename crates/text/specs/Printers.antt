@@ -11,6 +11,12 @@ pub record Starts (printer : Printer) (buffer : MutBor (List ℕ)) : Type 0 wher
   pub bytes : printer.out.now ≡ buffer.now
   pub at : printer.at ≡ 0
 
+-- a printer that stands at any place of a buffer, or behind its end
+pub record Stands (printer : Printer) (buffer : MutBor (List ℕ)) (place : ℕ) : Type 0 where
+  pub same_buffer : printer.out.ghost_name ≡ buffer.ghost_name
+  pub bytes : printer.out.now ≡ buffer.now
+  pub at : printer.at ≡ place
+
 -- a text is put into the same buffer, as far as that has room, and the place is behind it
 pub record Puts (before after : Printer) (text : List ℕ) : Type 0 where
   pub same_buffer : after.out.ghost_name ≡ before.out.ghost_name

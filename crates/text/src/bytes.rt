@@ -12,13 +12,20 @@ pub struct Printer<'a> {
 }
 
 impl<'a> Printer<'a> {
-    ghost use Rattle.text.specs.Printers.{Starts, Puts};
+    ghost use Rattle.text.specs.Printers.{Starts, Stands, Puts};
 
     // At the start of a buffer.
     pub fn new(out: &'a mut [u8]) -> Printer<'a>
         ensures { Starts result out.entry }
     {
         Printer { out, at: 0 }
+    }
+
+    // At a place of a buffer, or behind its end.
+    pub fn at_place(out: &'a mut [u8], place: usize) -> Printer<'a>
+        ensures { Stands result out.entry place }
+    {
+        Printer { out, at: place }
     }
 
     // The place behind what was put.

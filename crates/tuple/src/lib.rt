@@ -26,7 +26,7 @@ pub use forms::{
     ANNOUNCEMENT, ANNOUNCEMENT_TEMPLATE, DECISION_ENTRY, DECISION_TEMPLATE, LIST_TEMPLATE,
     LIST_TUPLE, PROPOSAL, PROPOSAL_TEMPLATE, WEAK_ENTRY, WEAK_TEMPLATE,
 };
-pub use matching::{field_matches, least, oldest};
+pub use matching::{field_matches, first, least, oldest};
 pub use offset::{BOTTOM, Offset};
 pub use refusal::{Refusal, Verdict};
 pub use reply::{Outcome, Reply};

@@ -2,7 +2,7 @@
 ghost use Rattle.std.specs.Prelude.{◌≡◌, ◌≤◌, length, min, take};
 ghost use Rattle.tuple.specs.Matching.{field_matches, matched_of};
 
-use crate::bounds::FIELDS;
+use crate::bounds::{FIELDS, TUPLES};
 use crate::field::{DEFINED, Field, Tuple};
 
 // The place of the oldest of these tuples that matches the template, and that tuple.
@@ -24,6 +24,13 @@ pub fn oldest(tuples: &[Tuple], template: Tuple) -> Option<(usize, Tuple)>
         return Some((at, *tuple));
     }
     None
+}
+
+// The first `count` of the tuples of a space; a count above the places means all of them.
+pub fn first(tuples: &[Tuple; TUPLES], count: usize) -> &[Tuple]
+    ensures { result.now ≡ take count tuples.now }
+{
+    &tuples[..count.min(TUPLES)]
 }
 
 // The first so many of a tuple's six fields.

@@ -4,15 +4,17 @@ ghost use Rattle.text.specs.Texts.{offset_text, value_text, letter_text, field_t
 ghost use Rattle.tuple.specs.Offsets.{offset_of};
 
 use crate::bytes::Printer;
-use tuple::{BOTTOM, COUNT, Field, OFFSET, Tuple, WORD};
+use tuple::{BOTTOM, COUNT, FIELDS, Field, OFFSET, Tuple, WORD};
 
 impl Printer<'_> {
     // The fields of a tuple, each behind a space.
     pub fn put_tuple(&mut self, tuple: Tuple)
         ensures { Puts self.old self.new (tuple_text tuple) }
     {
-        for field in tuple.fields.iter().take(tuple.count) {
+        let mut fields = &tuple.fields[..tuple.count.min(FIELDS)];
+        while let Some((field, more)) = fields.split_first() {
             self.put_field(*field);
+            fields = more;
         }
     }
 

@@ -3,14 +3,14 @@
 use mathlib.Core.Path.{◌≡◌, sym, ap, ◌∙◌}
 use Prim.Native.Nat.{ℕ, ◌+◌, ◌≤◌, ◌<◌}
 use native.Mathlib.Omega.{arith}
-use mathlib.Core.Bool.{Bool, true, cond, not, and-false}
+use mathlib.Core.Bool.{Bool, true, false, cond, not, and-false}
 use mathlib.Core.List.{List}
 use lib.ListN.{length, take, set, replicate, length-append, length-take, length-replicate}
 use lib.Dec.{eqb}
 use borrow.Author.Tests.{lt-ltb, le-ltb, le-leb, ne_eqb, eqb-true, eqb-false}
 use borrow.Table.Steps.{cases}
 use Rattle.std.specs.Prelude.{Option, Err, Ok}
-use Rattle.script.specs.Private.{sought_of, done_by}
+use Rattle.script.specs.Private.{looks, sought_of, done_by}
 use Rattle.calls.specs.declared.change.Change.TheVariants.{Append, Remove}
 use Rattle.calls.specs.Changes.{removed, carried_out}
 use Rattle.calls.specs.Turns.{first_refusal, judged_by, judged}
@@ -49,6 +49,15 @@ tidy-long space tidy few =
     sym (ap (λ (s : Space). length s.tuples) tidy) ∙ simp (length-append, length-replicate, length-take) (omega arith)
 
 -- ---- the search
+
+-- no call looks at more tuples than there are
+all-or-none : (test : Bool) (count : ℕ) → cond test count 0 ≤ count
+all-or-none true count = omega arith
+all-or-none false count = omega arith
+
+pub sought-few : (first : Verdict) (code count : ℕ) → sought_of first code count ≤ count
+sought-few (Ok _) code count = all-or-none (looks code) count
+sought-few (Err why) code count = omega arith
 
 -- a permitted call that is no out looks at all of them
 sought-all : (code count : ℕ) → (code ≡ out → ⊥) → sought_of (Ok tt) code count ≡ count

@@ -27,6 +27,10 @@ use Rattle.tuple.specs.Refusals.{refusal}
 
 -- ---- a fresh space
 
+pub fresh-sound : (config : Config) (space : Space) → fresh_of config ≡ Ok space → sound config ≡ true
+unfolding fresh_of
+fresh-sound config space e = cases (sound config) (λ s. s) (λ s. let r = rw s at e in let z : ◌≡◌ {A = ℕ} 0 1 = cc in absurd (omega arith))
+
 pub fresh-formed : (config : Config) → sound config ≡ true → well_formed (fresh_space config) ≡ true
 fresh-formed config s = run-formed s (fresh-run config s)
 

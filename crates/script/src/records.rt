@@ -9,13 +9,13 @@ ghost use Rattle.text.specs.Printers.{Puts};
 ghost use Rattle.varint.specs.Reading.{Bytes};
 
 use crate::line::{put_count, put_unread};
-use crate::owned::{effect_by, sought};
+use crate::owned::{effect_by, found_among, sought};
 use calls::{Change, lent_refusal, list_refusal};
 use policy::asks_tuples;
 use record::Cursor;
 use space::{Config, PLACES, Space, enter};
 use text::Printer;
-use tuple::{TUPLES, Tuple, oldest};
+use tuple::{TUPLES, Tuple};
 
 // The lines of the records from a position on, each call on the space that the one before left, the first on a fresh one; and the last line.
 pub(crate) fn put_records(printer: &mut Printer, script: &[u8], start: Cursor, config: Config)
@@ -53,7 +53,7 @@ pub(crate) fn put_records(printer: &mut Printer, script: &[u8], start: Cursor, c
             lent_refusal(config, &table, call)
         };
         let held = sought(first, code, count);
-        let found = oldest(&tuples[..held], template);
+        let found = found_among(&tuples, held, template);
         let effect = effect_by(first, code, count, found);
         let reply = effect.reply;
         let change = effect.change;

@@ -92,8 +92,8 @@ done : (k : Printed) → k.effect_by-effect.result ≡ judged (space k) (called 
 done k =
     let call = (called k) in
     k.effect_by-effect.ensures
-    ∙ done-judged (space k) k.loop-cursor.invariant.formed (long k.loop-cursor.invariant) call k.if-asks_tuples.first (first_said k) k.oldest-found.result
-    (k.oldest-found.ensures ∙ ap (λ (n : ℕ). matched_of (take n k.loop-cursor.tuples) call.template) k.sought-held.ensures)
+    ∙ done-judged (space k) k.loop-cursor.invariant.formed (long k.loop-cursor.invariant) call k.if-asks_tuples.first (first_said k) k.found_among-found.result
+    (k.found_among-found.ensures ∙ ap (λ (n : ℕ). matched_of (take n k.loop-cursor.tuples) call.template) k.sought-held.ensures)
 
 -- the record at the cursor, with what is done then
 abbrev stepped : Printed → Effect → Stepped

@@ -1,5 +1,5 @@
 -- The test of equal calls passes exactly for equal ones, place by place. From the definitions.
-use mathlib.Core.Path.{◌≡◌, refl, sym, ap₂, ◌∙◌}
+use mathlib.Core.Path.{◌≡◌, refl, ap₂}
 use mathlib.Core.Bool.{Bool, true, false≢true, ◌&&◌, and_assoc, and-eq-true_iff}
 use mathlib.Core.List.{List, [], ◌∷◌}
 use mathlib.Core.Logic.{◌↔◌}
@@ -65,7 +65,7 @@ same-call-rule a b =
       λ e. parts.1 ((((cc), cc), cc), cc),
     )
 
--- ---- the derived `==`, which groups its tests to the right
+-- ---- the derived `==` of calls, which groups its tests to the right, over any test of fields that answers as the definition does
 
 derived-fields : (same : Field → Field → Bool) → ((a b : Field) → same a b ≡ same_field a b) → (a b : List Field) → pointwise same a b ≡ same_fields a b
 unfolding same_fields
@@ -74,12 +74,12 @@ derived-fields same e [] (b ∷ rest) = refl
 derived-fields same e (a ∷ more) [] = refl
 derived-fields same e (a ∷ more) (b ∷ rest) = ap₂ (λ (s t : Bool). s && t) (e a b) (derived-fields same e more rest)
 
-pub derived-call : (same : Field → Field → Bool) → ((a b : Field) → same a b ≡ (eqb a.kind b.kind && (eqb a.state b.state && eqb a.value b.value))) → (a b : Call)
+pub derived-call : (same : Field → Field → Bool) → ((a b : Field) → same a b ≡ same_field a b) → (a b : Call)
     → (eqb a.process b.process && (eqb a.code b.code
     && ((eqb a.template.count b.template.count && pointwise same a.template.fields b.template.fields)
     && (eqb a.entry.count b.entry.count && pointwise same a.entry.fields b.entry.fields))))
     ≡ same_call a b
-unfolding same_call same_tuple same_field
+unfolding same_call same_tuple
 derived-call same e a b =
-    let fields = derived-fields same (λ x y. e x y ∙ sym (and_assoc (eqb x.kind y.kind) (eqb x.state y.state) (eqb x.value y.value))) in
+    let fields = derived-fields same e in
     rw (fields a.template.fields b.template.fields, fields a.entry.fields b.entry.fields) (simp and_assoc)

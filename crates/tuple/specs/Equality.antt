@@ -1,4 +1,5 @@
 -- Equal calls: number by number, unused parts too.
+use Rattle.std.specs.Cmp.{IsEquivalence, and_equiv, on_equiv, nat_eq_equiv}
 use Rattle.std.specs.Prelude.{Bool, true, false, ◌&&◌, List, [], ◌∷◌, eqb}
 use Rattle.tuple.specs.declared.field.Field.{Field}
 use Rattle.tuple.specs.declared.field.Tuple.{Tuple}
@@ -6,6 +7,11 @@ use Rattle.tuple.specs.declared.field.Call.{Call}
 
 unfoldable pub same_field : Field → Field → Bool
 same_field a b = eqb a.kind b.kind && eqb a.state b.state && eqb a.value b.value
+
+pub same_field_equiv : IsEquivalence same_field
+unfolding same_field
+same_field_equiv =
+    and_equiv (and_equiv (on_equiv (λ (f : Field). f.kind) nat_eq_equiv) (on_equiv (λ (f : Field). f.state) nat_eq_equiv)) (on_equiv (λ (f : Field). f.value) nat_eq_equiv)
 
 unfoldable pub same_fields : List Field → List Field → Bool
 same_fields [] [] = true

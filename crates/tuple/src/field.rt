@@ -40,7 +40,7 @@ pub const CAS: u32 = 4;
 
 // A field: its kind, its state and its value. An offset's value is its code.
 #[repr(C)]
-#[derive(Clone, Copy, PartialEq, Eq)]
+#[derive(Clone, Copy)]
 pub struct Field {
     pub kind: u32,
     pub state: u32,
@@ -49,7 +49,7 @@ pub struct Field {
 
 // A tuple: how many fields it has, and six places for them.
 #[repr(C)]
-#[derive(Clone, Copy, PartialEq, Eq)]
+#[derive(Clone, Copy)]
 pub struct Tuple {
     pub count: usize,
     pub fields: [Field; FIELDS],

@@ -1,4 +1,4 @@
--- `tuple::same_call` meets its contract: the derived `==` makes the definition's tests.
+-- `tuple::same_call` meets its contract: the derived `==` of calls, over the written ones of fields and tuples, makes the definition's tests.
 use mathlib.Core.Path.{refl, ◌∙◌}
 use Rattle.tuple.proofs.EqualityLaws.{derived-call}
 use Rattle.tuple.proofs.equality.same_call.Goals as goal

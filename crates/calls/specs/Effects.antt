@@ -46,15 +46,23 @@ effect tuples call =
 
 -- ---- by what was found
 
--- rdp, inp and cas by the oldest tuple that matches and its place; where there is none a blank one is answered. `count` is how many tuples are held
-abbrev pub found_effect : ℕ → ℕ → Option (ℕ × Tuple) → Effect
-found_effect code count (Some (i, tuple)) =
+-- rdp, inp and cas by a tuple and the place where it was found, if it was: found nowhere, it is answered as it is. `count` is how many tuples are held
+abbrev pub placed_effect : ℕ → ℕ → Tuple → Option ℕ → Effect
+placed_effect code count tuple (Some i) =
     cond (eqb code rdp) (answered outcome.Found tuple Keep)
     (cond (eqb code inp) (answered outcome.Found tuple (Remove i)) (answered outcome.Held tuple Keep))
-found_effect code count None =
-    cond (eqb code rdp) (answered outcome.None blank_tuple Keep)
-    (cond (eqb code inp) (answered outcome.None blank_tuple Keep) (appends outcome.Inserted count))
+placed_effect code count tuple None =
+    cond (eqb code rdp) (answered outcome.None tuple Keep)
+    (cond (eqb code inp) (answered outcome.None tuple Keep) (appends outcome.Inserted count))
+
+-- the same by the oldest tuple that matches and its place; where there is none a blank one is answered
+abbrev pub found_effect : ℕ → ℕ → Option (ℕ × Tuple) → Effect
+found_effect code count (Some (i, tuple)) = placed_effect code count tuple (Some i)
+found_effect code count None = placed_effect code count blank_tuple None
 
 -- an out looks for none
 unfoldable pub effect_by : ℕ → ℕ → Option (ℕ × Tuple) → Effect
 effect_by code count found = cond (eqb code out) (appends outcome.Done count) (found_effect code count found)
+
+unfoldable pub effect_at : ℕ → ℕ → Tuple → Option ℕ → Effect
+effect_at code count tuple found = cond (eqb code out) (appends outcome.Done count) (placed_effect code count tuple found)

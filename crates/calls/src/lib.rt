@@ -6,5 +6,5 @@ mod effect;
 mod turn;
 
 pub use change::{Change, carry_out_unchecked};
-pub use effect::{Effect, effect_of, refused};
+pub use effect::{Effect, effect_at, effect_of, refused};
 pub use turn::{Applied, apply, judge_unchecked, lent_refusal, list_refusal};

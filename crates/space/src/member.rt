@@ -15,12 +15,12 @@ pub(crate) fn every_member<F: Fn(u64) -> bool>(n: u64, set: u64, passes: F) -> b
     ensures { (test : _) → Answers n (F.post passes) test → result ≡ every test n 1 set }
 {
     let mut rest = set;
-    for k in 1..=n {
+    for k in 0..n {
         // Nobody is left: most sets have few high bits.
         if rest == 0 {
             break;
         }
-        if rest % 2 == 1 && !passes(k) {
+        if rest % 2 == 1 && !passes(k + 1) {
             return false;
         }
         rest /= 2;
@@ -35,12 +35,12 @@ pub(crate) fn count_members<F: Fn(u64) -> bool>(n: u64, set: u64, passes: F) -> 
 {
     let mut total = 0;
     let mut rest = set;
-    for k in 1..=n {
+    for k in 0..n {
         // Nobody is left.
         if rest == 0 {
             break;
         }
-        if rest % 2 == 1 && passes(k) {
+        if rest % 2 == 1 && passes(k + 1) {
             total += 1;
         }
         rest /= 2;

@@ -6,4 +6,4 @@ use Rattle.space.proofs.member.every_member.Given as goal
 
 abbrev pub invariant-loop-k : goal.invariant-loop-k
 invariant-loop-k g l =
-    (test : _) → Answers l.n (goal.F-post g l.passes) test → every test (l.n + 1 - l.k) l.k l.rest ≡ every test l.n 1 l.set
+    (test : _) → Answers l.n (goal.F-post g l.passes) test → every test (l.n + 1 - (l.k + 1)) (l.k + 1) l.rest ≡ every test l.n 1 l.set

@@ -2,6 +2,9 @@
 ghost use Rattle.std.specs.Prelude.{◌≡◌, ◌≤◌, length};
 ghost use Rattle.text.specs.Places.{largest_place};
 
+// Fewer bytes are stored one by one: a copy of their own takes longer.
+const SHORT: usize = 8;
+
 // What would stand behind the buffer's end is counted and not stored. The count stops at the largest place.
 #[derive(Drop)]
 pub struct Printer<'a> {
@@ -12,6 +15,7 @@ pub struct Printer<'a> {
 }
 
 impl<'a> Printer<'a> {
+    ghost use Rattle.std.specs.Prelude.{[], ◌∷◌};
     ghost use Rattle.text.specs.Printers.{Starts, Stands, Puts};
 
     // At the start of a buffer.
@@ -37,6 +41,33 @@ impl<'a> Printer<'a> {
 
     // Puts the bytes that the buffer has room for.
     pub fn put(&mut self, bytes: &[u8])
+        ensures { Puts self.old self.new bytes.now }
+    {
+        if bytes.len() < SHORT {
+            self.put_short(bytes);
+        } else {
+            self.put_long(bytes);
+        }
+    }
+
+    fn put_short(&mut self, bytes: &[u8])
+        ensures { Puts self.old self.new bytes.now }
+    {
+        for byte in bytes {
+            self.put_byte(*byte);
+        }
+    }
+
+    fn put_byte(&mut self, byte: u8)
+        ensures { Puts self.old self.new (byte ∷ []) }
+    {
+        if self.at < self.out.len() {
+            self.out[self.at] = byte;
+        }
+        self.at = self.at.saturating_add(1);
+    }
+
+    fn put_long(&mut self, bytes: &[u8])
         ensures { Puts self.old self.new bytes.now }
     {
         let at = self.at;

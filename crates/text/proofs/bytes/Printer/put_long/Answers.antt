@@ -1,11 +1,11 @@
--- `text::bytes::Printer::put` meets its contract: what the buffer has room for is put, and what stands behind its end is not stored.
+-- `text::bytes::Printer::put_long` meets its contract: what the buffer has room for is put, and what stands behind its end is not stored.
 use mathlib.Core.Path.{sym, ap, ◌∙◌}
 use Prim.Native.Nat.{◌+◌, ◌-◌}
 use native.Mathlib.Omega.{arith}
 use borrow.Rule.Slice.PartMut.{put_mid}
 use Rattle.text.proofs.PlaceLaws.{sets-out, sets-part}
-use Rattle.text.proofs.bytes.Printer.put.Goals.{then-at-self, else-at-self}
-use Rattle.text.proofs.bytes.Printer.put.Goals as goal
+use Rattle.text.proofs.bytes.Printer.put_long.Goals.{then-at-self, else-at-self}
+use Rattle.text.proofs.bytes.Printer.put_long.Goals as goal
 
 pub returns : goal.returns
 returns c =

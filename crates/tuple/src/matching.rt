@@ -54,5 +54,7 @@ pub fn least(a: usize, b: usize) -> usize
 pub fn field_matches(template: Field, entry: Field) -> bool
     ensures { result ≡ field_matches template entry }
 {
-    template.kind == entry.kind && (template.state != DEFINED || template.value == entry.value)
+    let free = template.state != DEFINED;
+    let same = template.value == entry.value;
+    template.kind == entry.kind && (free | same)
 }
